@@ -1,0 +1,10 @@
+pub mod BitsLemmas
+pub mod DesLaws
+pub mod MergedTable
+pub mod WordLemmas
+pub mod NumberLaws
+pub mod Linear
+pub mod KeyTable
+pub mod Exchanges
+pub mod Rounds
+pub mod Parity

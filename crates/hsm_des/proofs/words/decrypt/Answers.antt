@@ -1,0 +1,17 @@
+use Rattle.std.proofs.Common.{◌∙◌, Bool, List, reverse, ap, ap₂}
+use Rattle.hsm_des.specs.Bits.{number, pick}
+use Rattle.hsm_des.specs.Tables.{final_permutation}
+use Rattle.hsm_des.specs.Des.{after_rounds, Halves, exchanged, joined, cipher, decrypted}
+use Rattle.hsm_des.specs.Words.{round_key}
+use Rattle.hsm_des.proofs.Rounds.{map_reverse}
+use Rattle.hsm_des.proofs.words.decrypt.Goals as goal
+
+pub returns : goal.returns
+unfolding decrypted cipher
+returns c =
+    c.last.ensures
+    ∙ ap (λ (h : Halves). number (pick final_permutation (joined (exchanged h))))
+    (c.back_rounds-last_left.ensures
+    ∙ ap₂ (λ (keys : List (List Bool)) (h : Halves). after_rounds keys h)
+    (map_reverse round_key c.s.inside.keys ∙ ap reverse c.s.view_is)
+    (ap₂ (λ (l r : List Bool). record { left = l; right = r }) c.initial-left.ensures.left c.initial-left.ensures.right))
