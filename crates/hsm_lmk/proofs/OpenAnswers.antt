@@ -1,0 +1,64 @@
+-- What opening a text answers, as a function.
+use Rattle.std.proofs.Common.{◌≡◌, ℕ, zero, suc, ◌%◌, ◌∙◌, Bool, true, false, ◌&&◌, List, [], ◌∷◌, refl, sym, ap, arith}
+use Rattle.std.specs.Prelude.{All, Result, Ok, Err, count_ones}
+use Rattle.std.specs.Bool.{Decides}
+use Rattle.std.specs.List.{list_all}
+use Rattle.std.proofs.lemmas.Bool.Decides.{Decides-eqb}
+use Rattle.hsm_parity.specs.Parity.{IsOdd}
+use Rattle.hsm_types.specs.declared.types.Scheme.{Scheme}
+use Rattle.hsm_lmk.specs.Opening.{Opens}
+use Rattle.hsm_lmk.specs.Pairs.{AllOdd}
+use Rattle.hsm_lmk.specs.Opened.{opened, all_odd, has_odd_parity, open_answer}
+use Rattle.hsm_lmk.specs.declared.OpenFault.{OpenFault}
+use Rattle.hsm_lmk.specs.declared.OpenFault.TheVariants as fault
+use Rattle.hsm_lmk.proofs.OpenedLaws.{opens_to_sealed}
+
+and-left : (a b : Bool) → (a && b) ≡ true → a ≡ true
+and-left true b e = refl
+and-left false b e = e
+
+and-right : (a b : Bool) → (a && b) ≡ true → b ≡ true
+and-right true b e = e
+and-right false b e = cc
+
+and-both : (a b : Bool) → a ≡ true → b ≡ true → (a && b) ≡ true
+and-both true b e f = f
+and-both false b e f = e
+
+to_All : {X : Type 0} (P : X → Type 0) (p : X → Bool) → ((x : X) → Decides (p x) (P x)) → (xs : List X) → list_all p xs ≡ true → All P xs
+to_All P p dec [] e i d h = absurd (omega arith)
+to_All P p dec (x ∷ xs) e zero d h = (dec x).0 (and-left (p x) (list_all p xs) e)
+to_All P p dec (x ∷ xs) e (suc i) d h = to_All P p dec xs (and-right (p x) (list_all p xs) e) i d (omega arith)
+
+from_All : {X : Type 0} (P : X → Type 0) (p : X → Bool) → ((x : X) → Decides (p x) (P x)) → (xs : List X) → All P xs → list_all p xs ≡ true
+from_All P p dec [] all = refl
+from_All P p dec (x ∷ xs) all =
+    and-both (p x) (list_all p xs) ((dec x).1 (all zero x (omega arith))) (from_All P p dec xs (λ i d h. all (suc i) d (omega arith)))
+
+odd_byte : (byte : ℕ) → Decides (has_odd_parity byte) (IsOdd byte)
+odd_byte byte = Decides-eqb (count_ones byte % 2) 1
+
+odd_part : (part : List ℕ) → Decides (list_all has_odd_parity part) (All IsOdd part)
+odd_part part = (to_All IsOdd has_odd_parity odd_byte part, from_All IsOdd has_odd_parity odd_byte part)
+
+pub all_odd-Decides : (key : List (List ℕ)) → Decides (all_odd key) (AllOdd key)
+unfolding all_odd
+all_odd-Decides key = (to_All (λ part. All IsOdd part) (λ part. list_all has_odd_parity part) odd_part key, from_All (λ part. All IsOdd part) (λ part. list_all has_odd_parity part) odd_part key)
+
+not_true : (b : Bool) → (b ≡ true → ⊥) → b ≡ false
+not_true true h = absurd (h refl)
+not_true false h = refl
+
+pub opens-is : (refused permitted : Bool) (w : List (List ℕ)) (s : Scheme) (text : List ℕ) (r : Result (List (List ℕ)) OpenFault) → Opens refused permitted w s text r → r ≡ open_answer refused permitted w s text
+unfolding open_answer
+opens-is refused permitted w s text (Ok key) h =
+    let same : opened w s text ≡ key = opens_to_sealed w s key text h.2 in
+    let odd : all_odd (opened w s text) ≡ true = ap all_odd same ∙ (all_odd-Decides key).1 h.3 in
+    rw (h.0, h.1, odd) (ap Ok (sym same))
+opens-is refused permitted w s text (Err fault.Scheme) h = rw h refl
+opens-is refused permitted w s text (Err fault.Length) h = rw (h.0, h.1) refl
+opens-is refused permitted w s text (Err fault.Parity) h =
+    let key = h.2 in
+    let same : opened w s text ≡ key = opens_to_sealed w s key text h.3 in
+    let even : all_odd (opened w s text) ≡ false = not_true (all_odd (opened w s text)) (λ e. h.4 ((all_odd-Decides key).0 (ap all_odd (sym same) ∙ e))) in
+    rw (h.0, h.1, even) refl

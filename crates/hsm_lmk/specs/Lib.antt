@@ -1,0 +1,4 @@
+pub mod Pairs
+pub mod Sealing
+pub mod Opening
+pub mod Opened

@@ -1,0 +1,3 @@
+pub mod Tdes
+pub mod Parts
+pub mod Schedules

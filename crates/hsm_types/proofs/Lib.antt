@@ -1,0 +1,3 @@
+pub mod SameType
+pub mod Codes
+pub mod PinLemmas
