@@ -1,0 +1,3 @@
+pub mod BenchLemmas
+pub mod Passing
+pub mod TextLemmas

@@ -1,0 +1,7 @@
+pub mod Stream
+pub mod Outside
+pub mod Texts
+pub mod Files
+pub mod Moments
+pub mod MemoryForms
+pub mod Places

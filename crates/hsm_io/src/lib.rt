@@ -1,0 +1,29 @@
+//! The outside as the module meets it: what bytes are read from and written to, the clock, and the bench with its
+//! files; and a memory form of each, which tells what it holds.
+#![tactic(auto)]
+
+mod bench;
+mod clock;
+mod listed;
+mod mem_bench;
+mod mem_clock;
+mod mem_file;
+mod mem_sink;
+mod names;
+mod sink;
+mod source;
+mod writing;
+
+pub use bench::Bench;
+pub use clock::Clock;
+pub use mem_bench::{MemBench, MemNamed};
+pub use mem_clock::MemClock;
+pub use mem_file::MemFile;
+pub use mem_sink::MemSink;
+pub use names::keep_name;
+pub use sink::{Put, Sink};
+pub use source::{Got, Source};
+pub use writing::{OutFailed, write_all};
+
+#[cfg(test)]
+mod tests;
