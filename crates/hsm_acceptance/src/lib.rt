@@ -1,0 +1,5 @@
+//! Tests that cross crates: worked messages and scripts, with their answers from outside.
+#![tactic(auto)]
+
+#[cfg(test)]
+mod scripts;

@@ -1,0 +1,191 @@
+// Scripts of one host lane and what they print, under the LMK sets of the test laboratory.
+use hsm_io::MemSink;
+use hsm_lmk::LmkSet;
+use hsm_parity::adjust;
+use hsm_session::{Module, ScriptEnd, ScriptFault, script_run};
+use std::alloc::{Alloc, Global};
+use std::process::Abort;
+use std::test::Fail;
+
+// Every half is 133457799BBCDFF1.
+const PAIR_E: [u8; 16] = [
+    0x13, 0x34, 0x57, 0x79, 0x9B, 0xBC, 0xDF, 0xF1, 0x13, 0x34, 0x57, 0x79, 0x9B, 0xBC, 0xDF, 0xF1,
+];
+
+// Both halves are 0123456789ABCDEF.
+const PAIR_14: [u8; 16] = [
+    0x01, 0x23, 0x45, 0x67, 0x89, 0xAB, 0xCD, 0xEF, 0x01, 0x23, 0x45, 0x67, 0x89, 0xAB, 0xCD, 0xEF,
+];
+
+#[derive(Clone, Copy)]
+enum Set {
+    T,
+    E1,
+    E2,
+}
+
+fn pairs_of(set: Set) -> [[u8; 16]; 20] {
+    let mut pairs = [PAIR_E; 20];
+    match set {
+        Set::T => {
+            for k in 0u8..20 {
+                let pair = &mut pairs[usize::from(k)];
+                pair[..8].copy_from_slice(&adjust([32 + 2 * k; 8]));
+                pair[8..].copy_from_slice(&adjust([96 + 2 * k; 8]));
+            }
+        }
+        Set::E1 => {}
+        Set::E2 => pairs[7] = PAIR_14,
+    }
+    pairs
+}
+
+fn module_of(set: Set) -> Option<Module> {
+    let lmk = LmkSet::of(&pairs_of(set)).ok()?;
+    Some(Module { lmk, header: 4 })
+}
+
+fn end_of(entries: u64, cut: u32, short: u32) -> Result<ScriptEnd, ScriptFault> {
+    Ok(ScriptEnd {
+        entries,
+        cut,
+        short,
+    })
+}
+
+// A frame with a sealed key whose check value is D5D44F, as the line of a script.
+const ASKED: &str = "L1 001930303031425530313038354538313335343046304142343035\n";
+
+// Runs a script, and compares what it printed and how it ended.
+fn runs(
+    rt: &(impl Abort + Alloc<A = Global>),
+    set: Set,
+    script: &[u8],
+    output: &str,
+    ended: Result<ScriptEnd, ScriptFault>,
+) -> Result<(), Fail> {
+    let alloc = rt.alloc();
+    let module = module_of(set).ok_or("parity")?;
+    let mut out = MemSink::new(alloc, 1000, Vec::new(alloc))?;
+    let run = script_run(alloc, &module, script, &mut out);
+    assert_eq!(rt; run, ended);
+    assert_eq!(rt; out.bytes(), output.as_bytes());
+    Ok(())
+}
+
+#[test]
+fn check_values(rt: HostRuntime) -> Result<(), Fail> {
+    // The opened key has a byte of even parity.
+    let even = "L1 001930303031425530323031373636384446433732393235333244\n";
+    // Halves of a pair that differ, and the two key types.
+    let zone = "L1 001930303031425530313030343332454236394645373635414334\n";
+    let terminal = "L1 001930303031425530323044323844444336454142424434314345\n";
+    let cases = [
+        (
+            Set::E1,
+            ASKED,
+            "L1 000E3030303142563030443544343446\nEND 1\n",
+        ),
+        (Set::E2, even, "L1 00083030303142563130\nEND 1\n"),
+        (Set::T, zone, "L1 000E3030303142563030443544343446\nEND 1\n"),
+        (
+            Set::T,
+            terminal,
+            "L1 000E3030303142563030443544343446\nEND 1\n",
+        ),
+        // An unknown command, and fields that end too soon.
+        (
+            Set::E1,
+            "L1 0006303030315A5A\n",
+            "L1 0008303030315A5B3638\nEND 1\n",
+        ),
+        (
+            Set::E1,
+            "L1 00083030303142553031\n",
+            "L1 00083030303142563135\nEND 1\n",
+        ),
+    ];
+    for (set, script, output) in cases {
+        runs(&rt, set, script.as_bytes(), output, end_of(1, 0, 0))?;
+    }
+    Ok(())
+}
+
+#[test]
+fn frames_cut_anywhere(rt: HostRuntime) -> Result<(), Fail> {
+    let alloc = rt.alloc();
+    let digits = &ASKED.as_bytes()[3..57];
+    let mut script = Vec::new(alloc);
+    for pair in digits.chunks(2) {
+        script.extend_from_slice(b"L1 ")?;
+        script.extend_from_slice(pair)?;
+        script.push(b'\n')?;
+    }
+    runs(
+        &rt,
+        Set::E1,
+        &script,
+        "L1 000E3030303142563030443544343446\nEND 1\n",
+        end_of(1, 0, 0),
+    )
+}
+
+#[test]
+fn ends_of_streams(rt: HostRuntime) -> Result<(), Fail> {
+    let alloc = rt.alloc();
+    // A frame below the least length closes the lane.
+    let mut closed = Vec::from_slice(alloc, b"L1 00053030303142\n")?;
+    closed.extend_from_slice(ASKED.as_bytes())?;
+    runs(
+        &rt,
+        Set::E1,
+        &closed,
+        "L1 short 5\nL1 closed\nEND 0\n",
+        end_of(0, 0, 1),
+    )?;
+    runs(
+        &rt,
+        Set::E1,
+        b"L1 0000",
+        "L1 short 0\nEND 0\n",
+        end_of(0, 0, 1),
+    )?;
+    // A part of a frame at the end.
+    let mut cut = Vec::from_slice(alloc, ASKED.as_bytes())?;
+    cut.extend_from_slice(b"L1 0019")?;
+    runs(
+        &rt,
+        Set::E1,
+        &cut,
+        "L1 000E3030303142563030443544343446\nL1 cut\nEND 1\n",
+        end_of(1, 1, 0),
+    )?;
+    // Two messages in one piece, the second one in lower case.
+    let two =
+        b"L1 0019303030314255303130383545383133353430463041423430350019303030314255303130383565383133353430663061623430350000\n";
+    runs(
+        &rt,
+        Set::E1,
+        two,
+        "L1 000E3030303142563030443544343446\nL1 000E3030303142563030443544343446\nL1 short 0\nEND 2\n",
+        end_of(2, 0, 1),
+    )
+}
+
+#[test]
+fn lines_that_do_not_read(rt: HostRuntime) -> Result<(), Fail> {
+    let cases: [(&[u8], u64); 8] = [
+        (b"X", 1),
+        (b"\n", 1),
+        (b"L1 00\n\n", 2),
+        (b"L1 00\nL2 00\n", 2),
+        (b"L1 0\n", 1),
+        (b"L1 \n", 1),
+        (b"L1 0G\n", 1),
+        (b"L1 00\r\n", 1),
+    ];
+    for (script, line) in cases {
+        runs(&rt, Set::E1, script, "", Err(ScriptFault::Line(line)))?;
+    }
+    Ok(())
+}

@@ -1,0 +1,222 @@
+-- A piece that is fed in parts.
+use Rattle.std.proofs.Common.{◌≡◌, ℕ, ◌+◌, ◌-◌, ◌≤◌, ◌<◌, List, [], ◌∷◌, ◌++◌, length, take, drop, flat_map, Option, Some, None, refl, sym, ap, subst, ◌∙◌, append_assoc, append-nil, length-append, arith}
+use Rattle.std.specs.List.{AllByRecursion}
+use Rattle.std.proofs.lemmas.Grind.{flat_map-append}
+use Rattle.std.proofs.lemmas.List.{take-append-drop, take_rest}
+use Rattle.hsm_frame.specs.Frames.{frame, IsMessage, IsShort, IsTail, StreamEnd}
+use Rattle.hsm_frame.specs.Calls.{Held, IsNotYet}
+use Rattle.hsm_io.specs.Texts.{Appends}
+use Rattle.hsm_io.proofs.TextLemmas.{appends_twice}
+use Rattle.hsm_session.specs.Runs.{reply_line, piece_text, after_answers, short_line, closed_line}
+use Rattle.hsm_session.specs.Lanes.{answer_lines, Drains, IsBehind, FeedsPiece, end_of}
+use Rattle.hsm_session.specs.declared.lane.Lane.{Lane}
+use Rattle.hsm_session.specs.declared.lane.Drained.{Drained}
+use Rattle.hsm_session.proofs.Answering.{each_append}
+
+-- A part of a piece was fed to an open lane and its messages were answered. The lane is open, and waits.
+pub record Feeds (answer : List ℕ → List ℕ) (old new : Lane) (part : List ℕ) (before after : List ℕ → Type 0) : Type 0 where
+  pub messages : List (List ℕ)
+  pub split : old.frames.bytes ++ part ≡ flat_map frame messages ++ new.frames.bytes
+  pub each : AllByRecursion (IsMessage old.frames.least) messages
+  pub least : new.frames.least ≡ old.frames.least
+  pub printed : Appends before after (answer_lines answer messages)
+  pub count : new.entries ≡ old.entries + length messages
+  pub spent : new.entries + length new.frames.bytes ≤ old.entries + length old.frames.bytes + length part
+
+pub feeds_none : (answer : List ℕ → List ℕ) (old : Lane) (before : List ℕ → Type 0) → Feeds answer old old [] before before
+feeds_none answer old before = record {
+  messages = [];
+  split = append-nil old.frames.bytes;
+  each = tt;
+  least = refl;
+  printed = λ base h. subst before (sym (append-nil base)) h;
+  count = omega arith;
+  spent = omega arith;
+}
+
+-- one more part
+pub feeds_more : (answer : List ℕ → List ℕ) (old mid new : Lane) (part next : List ℕ) (fed left : Held) (before between after : List ℕ → Type 0) (drained : Drained)
+    → Feeds answer old mid part before between
+    → fed ≡ record { least = mid.frames.least; bytes = mid.frames.bytes ++ next }
+    → Drains answer fed left between after drained
+    → new.frames ≡ left → new.entries ≡ mid.entries + drained.answered
+    → Feeds answer old new (part ++ next) before after
+feeds_more answer old mid new part next fed left before between after drained f is d same count =
+    let line : List ℕ → List ℕ = λ m. reply_line (answer m) in
+    let fed_bytes : fed.bytes ≡ mid.frames.bytes ++ next = ap (λ (h : Held). h.bytes) is in
+    let fed_least : fed.least ≡ mid.frames.least = ap (λ (h : Held). h.least) is in
+    let new_bytes : new.frames.bytes ≡ left.bytes = ap (λ (h : Held). h.bytes) same in
+    let split : mid.frames.bytes ++ next ≡ flat_map frame d.messages ++ new.frames.bytes =
+    sym fed_bytes ∙ d.split ∙ ap (λ (rest : List ℕ). flat_map frame d.messages ++ rest) (sym new_bytes) in
+    record {
+      messages = f.messages ++ d.messages;
+      split =
+          sym (append_assoc old.frames.bytes part next)
+          ∙ ap (λ (bytes : List ℕ). bytes ++ next) f.split
+          ∙ append_assoc (flat_map frame f.messages) mid.frames.bytes next
+          ∙ ap (λ (rest : List ℕ). flat_map frame f.messages ++ rest) split
+          ∙ sym (append_assoc (flat_map frame f.messages) (flat_map frame d.messages) new.frames.bytes)
+          ∙ ap (λ (front : List ℕ). front ++ new.frames.bytes) (sym (flat_map-append frame f.messages d.messages));
+      each = each_append old.frames.least f.messages d.messages f.each
+          (subst (λ (n : ℕ). AllByRecursion (IsMessage n) d.messages) (fed_least ∙ f.least) d.each);
+      least = ap (λ (h : Held). h.least) same ∙ d.least ∙ fed_least ∙ f.least;
+      printed =
+          subst (Appends before after) (sym (flat_map-append line f.messages d.messages))
+          (appends_twice before between after (answer_lines answer f.messages) (answer_lines answer d.messages) f.printed d.printed);
+      count = omega (arith, count, d.count, f.count, length-append f.messages d.messages);
+      spent = omega (arith, count, d.spent, f.spent, length-append part next, ap length fed_bytes ∙ length-append mid.frames.bytes next, ap length new_bytes);
+    }
+
+-- what is held of an open lane's stream, as its tail
+pub waits_at_tail : (least : ℕ) (held : List ℕ) → IsTail least (end_of None held) held → IsNotYet least held
+waits_at_tail least [] ends = tt
+waits_at_tail least (byte ∷ held) ends = ends
+
+pub tail_waits : (least : ℕ) (held : List ℕ) → IsNotYet least held → IsTail least (end_of None held) held
+tail_waits least [] waits = refl
+tail_waits least (byte ∷ held) waits = waits
+
+pub short_more : (least n : ℕ) (held more : List ℕ) → IsShort least n held → IsShort least n (held ++ more)
+short_more least n [] more short = absurd short
+short_more least n (high ∷ []) more short = absurd short
+short_more least n (high ∷ low ∷ rest) more short = short
+
+pub text_open : (answer : List ℕ → List ℕ) (held : List ℕ) (messages : List (List ℕ)) (after : StreamEnd)
+    → piece_text answer (end_of None held) messages after ≡ answer_lines answer messages ++ after_answers after
+text_open answer [] messages after = refl
+text_open answer (byte ∷ held) messages after = refl
+
+pub nothing_after : (held : List ℕ) → after_answers (end_of None held) ≡ []
+nothing_after [] = refl
+nothing_after (byte ∷ held) = refl
+
+-- a lane whose stream these bytes are, by what is held
+record IsOpen (lane : Lane) (fed : List ℕ) (messages : List (List ℕ)) : Type 0 where
+  whole : fed ≡ flat_map frame messages ++ lane.frames.bytes
+  each : AllByRecursion (IsMessage lane.frames.least) messages
+  waits : IsNotYet lane.frames.least lane.frames.bytes
+
+is_open : (lane : Lane) (fed : List ℕ) (messages : List (List ℕ)) → lane.short ≡ None → IsBehind lane fed messages → IsOpen lane fed messages
+is_open lane fed messages none b =
+    let tail = b.held none in
+    record {
+      whole = b.whole ∙ ap (λ (rest : List ℕ). flat_map frame messages ++ rest) tail;
+      each = b.each;
+      waits = waits_at_tail lane.frames.least lane.frames.bytes
+          (subst (λ (s : Option ℕ). IsTail lane.frames.least (end_of s lane.frames.bytes) lane.frames.bytes) none
+          (subst (IsTail lane.frames.least (end_of lane.short lane.frames.bytes)) tail b.ends));
+    }
+
+-- the messages of a stream and those of a part that follows it
+joined : (old mid : Lane) (fed part : List ℕ) (messages more : List (List ℕ)) → fed ≡ flat_map frame messages ++ old.frames.bytes
+    → old.frames.bytes ++ part ≡ flat_map frame more ++ mid.frames.bytes
+    → fed ++ part ≡ flat_map frame (messages ++ more) ++ mid.frames.bytes
+joined old mid fed part messages more whole split =
+    ap (λ (front : List ℕ). front ++ part) whole
+    ∙ append_assoc (flat_map frame messages) old.frames.bytes part
+    ∙ ap (λ (rest : List ℕ). flat_map frame messages ++ rest) split
+    ∙ sym (append_assoc (flat_map frame messages) (flat_map frame more) mid.frames.bytes)
+    ∙ ap (λ (front : List ℕ). front ++ mid.frames.bytes) (sym (flat_map-append frame messages more))
+
+-- a whole piece was fed, and the lane is open
+pub feeds_piece : (answer : List ℕ → List ℕ) (old new : Lane) (piece : List ℕ) (before after : List ℕ → Type 0)
+    → old.short ≡ None → new.short ≡ None → Feeds answer old new piece before after
+    → (IsNotYet old.frames.least old.frames.bytes → IsNotYet old.frames.least new.frames.bytes) → length new.frames.bytes < 65537
+    → FeedsPiece answer old new piece before after
+feeds_piece answer old new piece before after was is f waits room = record {
+  least = f.least;
+  spent = f.spent;
+  answers = λ fed messages b.
+      let lane = is_open old fed messages was b in
+      let ends = tail_waits old.frames.least new.frames.bytes (waits lane.waits) in
+      let text : answer_lines answer f.messages ≡ piece_text answer (end_of old.short old.frames.bytes) f.messages (end_of new.short new.frames.bytes) =
+      sym (append-nil (answer_lines answer f.messages))
+      ∙ ap (λ (more : List ℕ). answer_lines answer f.messages ++ more)
+      (sym (nothing_after new.frames.bytes) ∙ ap (λ (s : Option ℕ). after_answers (end_of s new.frames.bytes)) (sym is))
+      ∙ sym (text_open answer old.frames.bytes f.messages (end_of new.short new.frames.bytes))
+      ∙ ap (λ (s : Option ℕ). piece_text answer (end_of s old.frames.bytes) f.messages (end_of new.short new.frames.bytes)) (sym was) in
+      let behind : IsBehind new (fed ++ piece) (messages ++ f.messages) = record {
+        tail = new.frames.bytes;
+        whole = joined old new fed piece messages f.messages lane.whole f.split;
+        each = subst (λ (n : ℕ). AllByRecursion (IsMessage n) (messages ++ f.messages)) (sym f.least)
+            (each_append old.frames.least messages f.messages lane.each f.each);
+        ends = subst (λ (n : ℕ). IsTail n (end_of new.short new.frames.bytes) new.frames.bytes) (sym f.least)
+            (subst (λ (s : Option ℕ). IsTail old.frames.least (end_of s new.frames.bytes) new.frames.bytes) (sym is) ends);
+        held = λ none. refl;
+        room = room;
+        count = omega (arith, f.count, b.count, length-append messages f.messages);
+      } in
+      (f.messages, behind, subst (Appends before after) text f.printed);
+}
+
+-- a part of a piece was fed, and then a short frame closed the lane
+pub feeds_short : (answer : List ℕ → List ℕ) (old mid new : Lane) (piece part rest : List ℕ) (n : ℕ) (before between after : List ℕ → Type 0)
+    → old.short ≡ None → piece ≡ part ++ rest → Feeds answer old mid part before between → IsShort old.frames.least n mid.frames.bytes
+    → new.short ≡ Some n → new.entries ≡ mid.entries → new.frames ≡ record { least = mid.frames.least; bytes = [] } → Appends between after (short_line n)
+    → FeedsPiece answer old new piece before after
+feeds_short answer old mid new piece part rest n before between after was parts f short closed entries cleared printed =
+    let least : new.frames.least ≡ old.frames.least = ap (λ (h : Held). h.least) cleared ∙ f.least in
+    let bytes : new.frames.bytes ≡ [] = ap (λ (h : Held). h.bytes) cleared in
+    record {
+      least = least;
+      spent = omega (arith, f.spent, entries, ap length bytes, ap length parts ∙ length-append part rest);
+      answers = λ fed messages b.
+          let lane = is_open old fed messages was b in
+          let text : answer_lines answer f.messages ++ short_line n ≡ piece_text answer (end_of old.short old.frames.bytes) f.messages (end_of new.short new.frames.bytes) =
+          ap (λ (s : Option ℕ). answer_lines answer f.messages ++ after_answers (end_of s new.frames.bytes)) (sym closed)
+          ∙ sym (text_open answer old.frames.bytes f.messages (end_of new.short new.frames.bytes))
+          ∙ ap (λ (s : Option ℕ). piece_text answer (end_of s old.frames.bytes) f.messages (end_of new.short new.frames.bytes)) (sym was) in
+          let behind : IsBehind new (fed ++ piece) (messages ++ f.messages) = record {
+            tail = mid.frames.bytes ++ rest;
+            whole =
+                ap (λ (more : List ℕ). fed ++ more) parts
+                ∙ sym (append_assoc fed part rest)
+                ∙ ap (λ (front : List ℕ). front ++ rest) (joined old mid fed part messages f.messages lane.whole f.split)
+                ∙ append_assoc (flat_map frame (messages ++ f.messages)) mid.frames.bytes rest;
+            each = subst (λ (k : ℕ). AllByRecursion (IsMessage k) (messages ++ f.messages)) (sym least)
+                (each_append old.frames.least messages f.messages lane.each f.each);
+            ends = subst (λ (k : ℕ). IsTail k (end_of new.short new.frames.bytes) (mid.frames.bytes ++ rest)) (sym least)
+                (subst (λ (s : Option ℕ). IsTail old.frames.least (end_of s new.frames.bytes) (mid.frames.bytes ++ rest)) (sym closed)
+                (short_more old.frames.least n mid.frames.bytes rest short));
+            held = λ none. absurd (cc);
+            room = omega (arith, ap length bytes);
+            count = omega (arith, f.count, entries, b.count, length-append messages f.messages);
+          } in
+          (f.messages, behind, subst (Appends before after) text (appends_twice before between after (answer_lines answer f.messages) (short_line n) f.printed printed));
+    }
+
+-- a piece came after a short frame had closed the lane
+pub feeds_closed : (answer : List ℕ → List ℕ) (old : Lane) (piece : List ℕ) (n : ℕ) (before after : List ℕ → Type 0)
+    → old.short ≡ Some n → Appends before after closed_line → FeedsPiece answer old old piece before after
+feeds_closed answer old piece n before after closed printed = record {
+  least = refl;
+  spent = omega arith;
+  answers = λ fed messages b.
+      let text : closed_line ≡ piece_text answer (end_of old.short old.frames.bytes) [] (end_of old.short old.frames.bytes) =
+      ap (λ (s : Option ℕ). piece_text answer (end_of s old.frames.bytes) [] (end_of old.short old.frames.bytes)) (sym closed) in
+      let behind : IsBehind old (fed ++ piece) (messages ++ []) = record {
+        tail = b.tail ++ piece;
+        whole =
+            ap (λ (front : List ℕ). front ++ piece) b.whole ∙ append_assoc (flat_map frame messages) b.tail piece
+            ∙ ap (λ (all : List (List ℕ)). flat_map frame all ++ (b.tail ++ piece)) (sym (append-nil messages));
+        each = subst (AllByRecursion (IsMessage old.frames.least)) (sym (append-nil messages)) b.each;
+        ends = subst (λ (s : Option ℕ). IsTail old.frames.least (end_of s old.frames.bytes) (b.tail ++ piece)) (sym closed)
+            (short_more old.frames.least n b.tail piece
+            (subst (λ (s : Option ℕ). IsTail old.frames.least (end_of s old.frames.bytes) b.tail) closed b.ends));
+        held = λ none. absurd (cc);
+        room = b.room;
+        count = omega (arith, b.count, length-append messages []);
+      } in
+      ([], behind, subst (Appends before after) text printed);
+}
+
+-- one more part of a piece
+pub parted : (piece part rest : List ℕ) (n : ℕ) → piece ≡ part ++ rest → piece ≡ (part ++ take n rest) ++ take (length rest - n) (drop n rest)
+parted piece part rest n e =
+    e ∙ ap (λ (more : List ℕ). part ++ more) (sym (take-append-drop n rest)) ∙ sym (append_assoc part (take n rest) (drop n rest))
+    ∙ ap (λ (more : List ℕ). (part ++ take n rest) ++ more) (sym (take_rest rest n))
+
+-- the last part of a piece
+pub all_parted : (piece part rest : List ℕ) → piece ≡ part ++ rest → length rest ≡ 0 → piece ≡ part
+all_parted piece part [] e none = e ∙ append-nil part
+all_parted piece part (byte ∷ rest) e none = absurd (omega arith)

@@ -1,0 +1,126 @@
+//! The top call.
+
+ghost use Rattle.std.specs.Prelude.{◌≡◌, ◌<◌, ℕ, List, Some, false, IsErrOf, length};
+ghost use Rattle.hsm_io.specs.Outside.{Rose};
+ghost use Rattle.hsm_io.specs.Files.{kept_name};
+ghost use Rattle.hsm_tool.specs.Files.{FilesStay, ReadsFile};
+ghost use Rattle.hsm_tool.specs.Sets.{module_of};
+ghost use Rattle.hsm_tool.specs.Words.{asked, names, word_at};
+ghost use Rattle.hsm_tool.specs.Runs.{AnswersScript, AnswersWords, FileCause, HasStatus, OfScript, WritesNothing, status_of};
+
+use crate::command::{Command, WordsFault, read_words};
+use crate::reading::{ReadingFault, read_all};
+use crate::sets::module_of;
+use hsm_io::{Bench, Sink};
+use hsm_session::{ScriptEnd, ScriptFault, script_run};
+use std::alloc::Global;
+
+/// How a run ended.
+#[derive(Clone, Copy, Debug, PartialEq, Eq)]
+pub enum Outcome {
+    /// The run went to its end. Status 6 where a lane was cut or closed by a short frame, else 0.
+    Served,
+    /// The words are no command: the place of the first word that no command allows. Status 2.
+    Usage(u64),
+    /// Opening or reading a file failed. Status 3.
+    FileFault,
+    /// A write of the output failed. Status 3.
+    OutFault,
+    /// A file has more than 16,777,216 bytes. Status 4.
+    FileLong,
+    /// The first line of the script that does not read, counted from 1. Status 4.
+    ScriptRefused(u64),
+    /// Want of memory. Status 5.
+    Memory,
+}
+
+/// The status of a run and its outcome.
+#[derive(Clone, Copy, Debug, PartialEq, Eq)]
+pub struct Ended {
+    pub status: u8,
+    pub outcome: Outcome,
+}
+
+fn end_with(status: u8, outcome: Outcome) -> Ended
+    ensures { result ≡ record { status = status; outcome = outcome } }
+{
+    Ended { status, outcome }
+}
+
+fn status_of(over: ScriptEnd) -> u8
+    ensures { result ≡ status_of over }
+{
+    if over.cut == 0 && over.short == 0 {
+        0
+    } else {
+        6
+    }
+}
+
+fn word_at(words: &[String], place: usize) -> &str
+    requires { place < length words.now }
+    ensures { result.now ≡ word_at (names words.now) place }
+{
+    words[place].as_str()
+}
+
+// Reads a file of the bench whole, and gives it back.
+fn read_file<B: Bench>(alloc: Global, name: &str, bench: &mut B) -> Result<Vec<u8>, ReadingFault>
+    requires { (B.files bench.old).is_out ≡ false }
+    ensures told { (bytes : List ℕ) → (B.files bench.old).bytes_of name.now ≡ Some bytes → ReadsFile bytes result }
+    ensures cause { IsErrOf result ReadingFault.Failed → (Rose (B.files bench.old).faults (B.files bench.new).faults) × ((B.files bench.new).bad_name ≡ kept_name name.now) }
+    ensures files { FilesStay (B.files bench.old).bytes_of (B.files bench.new).bytes_of }
+    ensures given_back { (B.files bench.new).is_out ≡ false }
+{
+    let Some(mut file) = bench.open_file(name) else {
+        return Err(ReadingFault::Failed);
+    };
+    let bytes = read_all(alloc, &mut file);
+    bench.close_file(file);
+    bytes
+}
+
+/// Does what the words ask for, with the files of the bench, and writes the command's output to `out`.
+///
+/// The causes are looked at in this order: the words, the file, the lines of the script, the output. Want of memory may come before any but the words.
+pub fn hsm_run<B: Bench, S: Sink>(
+    alloc: Global,
+    words: &[String],
+    bench: &mut B,
+    out: &mut S,
+) -> Ended
+    // No file of the bench is out.
+    requires { (B.files bench.old).is_out ≡ false }
+    // `Usage` comes exactly where the words are no command.
+    ensures words { AnswersWords (asked (names words.now)) result.outcome }
+    // Where the bench tells the bytes of the file, they decide the outcome, the status and the output, but for faults and want of memory.
+    ensures script { OfScript (asked (names words.now)) (λ set file. (bytes : List ℕ) → (B.files bench.old).bytes_of file ≡ Some bytes →
+        AnswersScript (module_of set) bytes (S.stands_for out.old) (S.stands_for out.new) result.status result.outcome) }
+    ensures status { HasStatus result.status result.outcome }
+    // With each other answer than `Served` and `OutFault` nothing was written.
+    ensures nothing { WritesNothing (S.stands_for out.old) (S.stands_for out.new) result.outcome }
+    // `FileFault` only where the count for files rose in this call, and the bad name is that of the command's file.
+    ensures file_cause { FileCause (asked (names words.now)) (B.files bench.old).faults (B.files bench.new).faults (B.files bench.new).bad_name result.outcome }
+    // `OutFault` only where the sink's count rose in this call.
+    ensures out_cause { result.outcome ≡ Outcome.OutFault → Rose (S.faults out.old) (S.faults out.new) }
+    // Each file is as it was, and none is out.
+    ensures files { FilesStay (B.files bench.old).bytes_of (B.files bench.new).bytes_of }
+    ensures given_back { (B.files bench.new).is_out ≡ false }
+{
+    let Command::Script { set, file } = match read_words(words) {
+        Ok(command) => command,
+        Err(WordsFault::Usage(place)) => return end_with(2, Outcome::Usage(place as u64)),
+    };
+    let bytes = match read_file(alloc, word_at(words, file), bench) {
+        Ok(bytes) => bytes,
+        Err(ReadingFault::Memory) => return end_with(5, Outcome::Memory),
+        Err(ReadingFault::Failed) => return end_with(3, Outcome::FileFault),
+        Err(ReadingFault::Long) => return end_with(4, Outcome::FileLong),
+    };
+    match script_run(alloc, &module_of(set), &bytes, out) {
+        Ok(over) => end_with(status_of(over), Outcome::Served),
+        Err(ScriptFault::Line(line)) => end_with(4, Outcome::ScriptRefused(line)),
+        Err(ScriptFault::Memory) => end_with(5, Outcome::Memory),
+        Err(ScriptFault::Out) => end_with(3, Outcome::OutFault),
+    }
+}

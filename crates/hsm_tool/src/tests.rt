@@ -1,0 +1,156 @@
+// The top call over a bench in memory, and each adapter once.
+ghost use Rattle.std.specs.Prelude.{◌≡◌, IfOk, None};
+
+use super::*;
+use hsm_io::{Bench, MemBench, MemNamed, MemSink, Sink, write_all};
+use std::alloc::{AllocError, Global};
+use std::fs;
+use std::test::Fail;
+
+const SCRIPT: &[u8] = b"L1 001930303031425530313038354538313335343046304142343035\n";
+
+const ANSWER: &[u8] = b"L1 000E3030303142563030443544343446\nEND 1\n";
+
+fn words_of(alloc: Global, texts: &[&str]) -> Result<Vec<String>, AllocError> {
+    let mut words = Vec::new(alloc);
+    for text in texts {
+        words.push(String::from_str(alloc, text)?)?;
+    }
+    Ok(words)
+}
+
+fn bench_of(
+    alloc: Global,
+    bytes: Vec<u8>,
+    bad_reads: &[u32],
+    bad_files: &[u32],
+) -> Result<MemBench, AllocError>
+    ensures { IfOk result (λ bench. bench.out ≡ None) }
+{
+    let mut files = Vec::new(alloc);
+    files.push(MemNamed {
+        name: String::from_str(alloc, "f")?,
+        bytes,
+        bad_reads: bad_reads.to_vec(alloc)?,
+    })?;
+    Ok(MemBench::new(files, bad_files.to_vec(alloc)?))
+}
+
+fn ended(status: u8, outcome: Outcome) -> Ended {
+    Ended { status, outcome }
+}
+
+#[test]
+fn words_that_are_no_command(rt: HostRuntime) -> Result<(), Fail> {
+    let alloc = rt.alloc();
+    let cases: [(&[&str], u64); 11] = [
+        (&[], 0),
+        (&["fly"], 0),
+        (&["--help"], 0),
+        (&["check", "c"], 0),
+        (&["script"], 1),
+        (&["script", "E9", "f"], 1),
+        (&["script", "e1", "f"], 1),
+        (&["script", "E1"], 2),
+        (&["script", "E1", "-f", "g"], 2),
+        (&["script", "E1", ""], 2),
+        (&["script", "E1", "f", ""], 3),
+    ];
+    for (texts, place) in cases {
+        let mut bench = bench_of(alloc, SCRIPT.to_vec(alloc)?, &[], &[])?;
+        let mut out = MemSink::new(alloc, 100, Vec::new(alloc))?;
+        let words = words_of(alloc, texts)?;
+        let outcome = hsm_run(alloc, &words, &mut bench, &mut out);
+        assert_eq!(rt; outcome, ended(2, Outcome::Usage(place)));
+        assert_eq!(rt; out.bytes(), b"".as_slice());
+    }
+    Ok(())
+}
+
+#[test]
+fn served_and_refused(rt: HostRuntime) -> Result<(), Fail> {
+    let alloc = rt.alloc();
+    let cases: [(&[u8], u8, Outcome, &[u8]); 4] = [
+        (SCRIPT, 0, Outcome::Served, ANSWER),
+        (b"L1 0019", 6, Outcome::Served, b"L1 cut\nEND 0\n"),
+        (b"", 0, Outcome::Served, b"END 0\n"),
+        (b"L1 00\n\nL1 19\n", 4, Outcome::ScriptRefused(2), b""),
+    ];
+    for (script, status, outcome, output) in cases {
+        let mut bench = bench_of(alloc, script.to_vec(alloc)?, &[], &[])?;
+        let mut out = MemSink::new(alloc, 100, Vec::new(alloc))?;
+        let words = words_of(alloc, &["script", "E1", "f"])?;
+        let run = hsm_run(alloc, &words, &mut bench, &mut out);
+        assert_eq!(rt; run, ended(status, outcome));
+        assert_eq!(rt; out.bytes(), output);
+    }
+    Ok(())
+}
+
+#[test]
+fn faults_of_the_outside(rt: HostRuntime) -> Result<(), Fail> {
+    let alloc = rt.alloc();
+    // The file that is opened, the reads, openings and writes that fail, and the outcome.
+    let cases: [(&str, &[u32], &[u32], &[u32], Outcome); 5] = [
+        ("g", &[], &[], &[], Outcome::FileFault),
+        ("f", &[0], &[], &[], Outcome::FileFault),
+        ("f", &[1], &[], &[], Outcome::FileFault),
+        ("f", &[], &[0], &[], Outcome::FileFault),
+        ("f", &[], &[], &[0], Outcome::OutFault),
+    ];
+    for (name, bad_reads, bad_files, bad_writes, outcome) in cases {
+        let mut bench = bench_of(alloc, SCRIPT.to_vec(alloc)?, bad_reads, bad_files)?;
+        let mut out = MemSink::new(alloc, 100, bad_writes.to_vec(alloc)?)?;
+        let words = words_of(alloc, &["script", "E1", name])?;
+        let run = hsm_run(alloc, &words, &mut bench, &mut out);
+        assert_eq!(rt; run, ended(3, outcome));
+        assert_eq!(rt; out.bytes(), b"".as_slice());
+        if outcome == Outcome::FileFault {
+            assert_eq!(rt; bench.bad_name(), name.as_bytes());
+        }
+    }
+    Ok(())
+}
+
+#[test]
+fn longest_file(rt: HostRuntime) -> Result<(), Fail> {
+    let alloc = rt.alloc();
+    let cases = [
+        (FILE_LIMIT, Outcome::ScriptRefused(1)),
+        (FILE_LIMIT + 1, Outcome::FileLong),
+    ];
+    for (size, outcome) in cases {
+        let mut bench = bench_of(alloc, vec![in alloc; 0u8; size]?, &[], &[])?;
+        let mut out = MemSink::new(alloc, 100, Vec::new(alloc))?;
+        let words = words_of(alloc, &["script", "T", "f"])?;
+        let run = hsm_run(alloc, &words, &mut bench, &mut out);
+        assert_eq!(rt; run, ended(4, outcome));
+    }
+    Ok(())
+}
+
+#[test]
+fn system_files(rt: HostRuntime) -> Result<(), Fail> {
+    let alloc = rt.alloc();
+    fs::write(&rt, "there", SCRIPT)?;
+    let mut bench = SystemBench::new(&rt);
+    assert!(rt; bench.open_file("missing").is_none());
+    let Some(mut file) = bench.open_file("there") else {
+        return Err("not opened")?;
+    };
+    let bytes = read_all(alloc, &mut file).ok().ok_or("not read")?;
+    bench.close_file(file);
+    assert_eq!(rt; bytes.as_slice(), SCRIPT);
+    Ok(())
+}
+
+#[test]
+fn system_output(rt: HostRuntime) -> Result<(), Fail> {
+    let alloc = rt.alloc();
+    fs::write(&rt, "output", b"")?;
+    let mut out = Output::new(fs::create(&rt, "output")?);
+    assert!(rt; write_all(&mut out, ANSWER).is_ok());
+    drop(out);
+    assert_eq!(rt; fs::read(&rt, "output")?.as_slice(), ANSWER);
+    Ok(())
+}
