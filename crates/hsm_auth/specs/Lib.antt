@@ -1,0 +1,5 @@
+pub mod Activities
+pub mod History
+pub mod Grants
+pub mod Own
+pub mod Steps

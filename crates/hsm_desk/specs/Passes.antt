@@ -1,0 +1,73 @@
+-- Passes and bookings, as contracts see them.
+use Rattle.std.specs.Prelude.{◌≡◌, ℕ, ◌+◌, ◌^◌, ◌<◌, List, [], ◌∷◌, ◌++◌, length, slice_get, Some}
+use Rattle.atomic_table.specs.Seated.{TableId}
+use Rattle.hsm_auth.specs.declared.entry.Ask.{Ask}
+use Rattle.hsm_auth.specs.declared.entry.Granted.{Granted}
+use Rattle.hsm_auth.specs.declared.entry.Entry.{Entry}
+use Rattle.hsm_auth.specs.History.{entry, outcome}
+use Rattle.hsm_auth.specs.Own.{own}
+use Rattle.hsm_desk.specs.Kin.{Covers, Grows, IsSound, first_pair, kept_kin, new_kin}
+
+-- a pass: the desk that it belongs to, the history that it has seen, and its kin, which begins with its own number and step
+pub record PassView : Type 0 where
+  pub desk : TableId
+  pub seen : List Entry
+  pub kin : List (ℕ × ℕ)
+
+-- the number of a pass
+abbrev pub number : PassView → ℕ
+number p = (first_pair p.kin).0
+
+-- the step of a pass
+abbrev pub step : PassView → ℕ
+step p = (first_pair p.kin).1
+
+-- what each pass keeps: its history is legal, its pairs are pairs, and each entry whose number a pair covers has the pair's own number
+abbrev pub Sound : PassView → Type 0
+Sound p = IsSound p.seen p.kin
+
+-- the pairs of its kin cover every number
+abbrev pub IsWhole : PassView → Type 0
+IsWhole p = (x : ℕ) → (j : ℕ) × (q : ℕ × ℕ) × (slice_get p.kin j ≡ Some q) × Covers q x
+
+-- the number of each entry that was seen is that of a pair of the kin
+abbrev pub OnlyKin : PassView → Type 0
+OnlyKin p = (k : ℕ) (e : Entry) → slice_get p.seen k ≡ Some e → (j : ℕ) × (q : ℕ × ℕ) × (slice_get p.kin j ≡ Some q) × (e.pass ≡ q.0)
+
+-- one booking: its entry stands last; between what the pass had seen and it stand only entries whose numbers the kin does not cover
+pub record Books (p q : PassView) (moment : ℕ) (ask : Ask) (granted : Granted) (place : ℕ) : Type 0 where
+  pub others : List Entry
+  pub apart : Grows p.kin p.seen (p.seen ++ others)
+  pub seen : q.seen ≡ (p.seen ++ others) ++ entry (number p) moment ask granted ∷ []
+  pub answers : granted ≡ outcome (p.seen ++ others) moment ask
+  pub stands : place ≡ length p.seen + length others
+  pub early : place < 2 ^ 62
+  pub desk : q.desk ≡ p.desk
+  pub kin : q.kin ≡ p.kin
+
+-- the entries of the booking pass, with their places: those from before and the new one
+abbrev pub OwnBooked : PassView → PassView → ℕ → Ask → Granted → ℕ → Type 0
+OwnBooked p q moment ask granted place = own (number p) q.seen ≡ own (number p) p.seen ++ (place, entry (number p) moment ask granted) ∷ []
+
+-- the first pass of a desk: it has seen nothing, its number is 0 and its step 1
+abbrev pub first_pass : TableId → PassView
+first_pass desk = record { desk = desk; seen = []; kin = (0, 1) ∷ [] }
+
+-- the given pass after a split
+abbrev pub kept_pass : PassView → PassView
+kept_pass p = record { desk = p.desk; seen = p.seen; kin = kept_kin p.kin }
+
+-- the new pass after a split
+abbrev pub new_pass : PassView → PassView
+new_pass p = record { desk = p.desk; seen = p.seen; kin = new_kin p.kin }
+
+-- the second pass was joined into the first
+pub record Meets (p other q : PassView) : Type 0 where
+  pub desk : q.desk ≡ p.desk
+  pub kin : q.kin ≡ p.kin ++ other.kin
+  pub mine : Grows p.kin p.seen q.seen
+  pub theirs : Grows other.kin other.seen q.seen
+
+-- the entries of each number of the first pass's kin, with their places, are the same in what the second has seen
+abbrev pub KeepsOwn : PassView → PassView → Type 0
+KeepsOwn p q = (j : ℕ) (n : ℕ × ℕ) → slice_get p.kin j ≡ Some n → own n.0 q.seen ≡ own n.0 p.seen
