@@ -1,0 +1,2 @@
+pub mod MacLaws
+pub mod ThreeParts

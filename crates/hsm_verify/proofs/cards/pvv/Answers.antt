@@ -1,0 +1,7 @@
+use Rattle.hsm_verify.proofs.ValueLaws.{pvv_digits-below, pin_decimal}
+use Rattle.hsm_verify.proofs.cards.pvv.Goals as goal
+
+pub block_of-requires : goal.block_of-requires
+block_of-requires c =
+    rw (c.pvv_digits-digits.ensures, c.digits.ensures.digits)
+    (pvv_digits-below c.args.account.now c.args.pin.now c.args.index c.requires.account c.requires.index (pin_decimal c.args.pin.now c.digits.ensures.pin))
