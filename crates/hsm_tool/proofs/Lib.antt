@@ -1,2 +1,3 @@
 pub mod FilesLaws
+pub mod RowLaws
 pub mod SetLaws

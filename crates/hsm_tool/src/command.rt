@@ -1,15 +1,20 @@
 //! The words of the command line.
 
-ghost use Rattle.std.specs.Prelude.{◌≡◌};
-ghost use Rattle.hsm_tool.specs.Words.{ReadsWords, ReadsFrom, asked_file, asked_set, is_file_word, names};
+ghost use Rattle.std.specs.Prelude.{◌≡◌, IfSome};
+ghost use Rattle.std.specs.Option.{option_map};
+ghost use Rattle.hsm_rows.specs.Table.{IsHostRow, host_rows, row_with, shape_of, shown_shape};
+ghost use Rattle.hsm_tool.specs.Words.{ReadsWords, ReadsFrom, asked_code, asked_file, asked_set, is_file_word, names};
 
 use crate::sets::{TestSet, set_named};
+use hsm_rows::{Row, row_of};
 
 /// What the words ask for. A place indexes the words.
-#[derive(Clone, Copy, Debug, PartialEq, Eq)]
+#[derive(Clone, Copy)]
 pub enum Command {
     /// Runs the script of a file under an LMK set.
     Script { set: TestSet, file: usize },
+    /// Prints the row of a host command.
+    Explain { row: &'static Row },
 }
 
 /// The words are no command.
@@ -19,17 +24,18 @@ pub enum WordsFault {
     Usage(usize),
 }
 
-/// The command of the words: `script SET FILE`.
+/// The command of the words: `script SET FILE` or `explain CODE`.
 pub fn read_words(words: &[String]) -> Result<Command, WordsFault>
     ensures { ReadsWords (names words.now) result }
 {
     let [first, rest @ ..] = words else {
         return Err(WordsFault::Usage(0));
     };
-    if first.as_bytes() != b"script".as_slice() {
-        return Err(WordsFault::Usage(0));
+    match first.as_bytes() {
+        b"script" => read_set(rest),
+        b"explain" => read_code(rest),
+        _ => Err(WordsFault::Usage(0)),
     }
-    read_set(rest)
 }
 
 fn read_set(words: &[String]) -> Result<Command, WordsFault>
@@ -57,6 +63,32 @@ fn read_file_word(set: TestSet, words: &[String]) -> Result<Command, WordsFault>
         return Err(WordsFault::Usage(3));
     }
     Ok(Command::Script { set, file: 2 })
+}
+
+fn read_code(words: &[String]) -> Result<Command, WordsFault>
+    ensures { ReadsFrom 0 asked_code (names words.now) result }
+{
+    let [word, rest @ ..] = words else {
+        return Err(WordsFault::Usage(1));
+    };
+    let Some(row) = host_row(word.as_bytes()) else {
+        return Err(WordsFault::Usage(1));
+    };
+    if !rest.is_empty() {
+        return Err(WordsFault::Usage(2));
+    }
+    Ok(Command::Explain { row })
+}
+
+// The host row of a word. Each host code has two bytes.
+fn host_row(word: &[u8]) -> Option<&'static Row>
+    ensures row { option_map shown_shape result ≡ row_with word.now host_rows }
+    ensures host { IfSome result (λ r. IsHostRow (shape_of r.now)) }
+{
+    match <&[u8; 2]>::try_from(word) {
+        Ok(code) => row_of(code),
+        Err(_) => None,
+    }
 }
 
 fn is_file_word(word: &[u8]) -> bool

@@ -1,4 +1,4 @@
-//! The program: `hsm_tool script SET FILE` answers the messages of a script.
+//! The program: `hsm_tool script SET FILE` answers the messages of a script, and `hsm_tool explain CODE` prints a command.
 #![tactic(auto)]
 
 mod command;

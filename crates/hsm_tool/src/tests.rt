@@ -43,11 +43,19 @@ fn ended(status: u8, outcome: Outcome) -> Ended {
 #[test]
 fn words_that_are_no_command(rt: HostRuntime) -> Result<(), Fail> {
     let alloc = rt.alloc();
-    let cases: [(&[&str], u64); 11] = [
+    let cases: [(&[&str], u64); 19] = [
         (&[], 0),
         (&["fly"], 0),
         (&["--help"], 0),
         (&["check", "c"], 0),
+        (&["explain"], 1),
+        (&["explain", "dg"], 1),
+        (&["explain", "GC"], 1),
+        (&["explain", "DH"], 1),
+        (&["explain", "D"], 1),
+        (&["explain", "DGX", ""], 1),
+        (&["explain", "DG", "NG"], 2),
+        (&["explain", "DG", ""], 2),
         (&["script"], 1),
         (&["script", "E9", "f"], 1),
         (&["script", "e1", "f"], 1),
@@ -80,6 +88,38 @@ fn served_and_refused(rt: HostRuntime) -> Result<(), Fail> {
         let mut bench = bench_of(alloc, script.to_vec(alloc)?, &[], &[])?;
         let mut out = MemSink::new(alloc, 100, Vec::new(alloc))?;
         let words = words_of(alloc, &["script", "E1", "f"])?;
+        let run = hsm_run(alloc, &words, &mut bench, &mut out);
+        assert_eq!(rt; run, ended(status, outcome));
+        assert_eq!(rt; out.bytes(), output);
+    }
+    Ok(())
+}
+
+#[test]
+fn explains(rt: HostRuntime) -> Result<(), Fail> {
+    let alloc = rt.alloc();
+    let cases: [(&str, &[u32], u8, Outcome, &[u8]); 4] = [
+        (
+            "DG",
+            &[],
+            0,
+            Outcome::Served,
+            b"DG DH\nP 15\n16H 15\n12N 15\n1N 15\n",
+        ),
+        (
+            "NG",
+            &[],
+            0,
+            Outcome::Served,
+            b"NG NH\n12N 15\n16H 15\nclear 1\n",
+        ),
+        ("RA", &[], 0, Outcome::Served, b"RA RB\n"),
+        ("RA", &[0], 3, Outcome::OutFault, b""),
+    ];
+    for (code, bad_writes, status, outcome, output) in cases {
+        let mut bench = bench_of(alloc, Vec::new(alloc), &[], &[])?;
+        let mut out = MemSink::new(alloc, 100, bad_writes.to_vec(alloc)?)?;
+        let words = words_of(alloc, &["explain", code])?;
         let run = hsm_run(alloc, &words, &mut bench, &mut out);
         assert_eq!(rt; run, ended(status, outcome));
         assert_eq!(rt; out.bytes(), output);

@@ -1,0 +1,9 @@
+pub mod Texts
+pub mod Table
+pub mod Forms
+pub mod Reading
+pub mod Places
+pub mod Rules
+pub mod Bounds
+pub mod Clear
+pub mod Explain

@@ -1,0 +1,284 @@
+-- The rows of the command table: what each command's message and reply are made of.
+use Rattle.std.specs.Prelude.{ℕ, Bool, List, [], ◌∷◌, ◌++◌, map, Option, codes, find}
+use Rattle.std.specs.List.{Contains}
+use Rattle.std.specs.Str.{bytes_eq}
+use Rattle.std.specs.Borrow.{Bor}
+use Rattle.hsm_rows.specs.declared.row.Row.{Row}
+use Rattle.hsm_rows.specs.declared.row.Field.{Field}
+use Rattle.hsm_rows.specs.declared.row.Form.{Form}
+use Rattle.hsm_rows.specs.declared.row.Public.{Public}
+use Rattle.hsm_rows.specs.declared.row.Form.TheVariants as form
+use Rattle.hsm_rows.specs.declared.row.Secret.TheVariants as secret
+use Rattle.hsm_rows.specs.declared.row.Public.TheVariants as public
+use Rattle.hsm_rows.specs.declared.row.Public.TheVariants.{Fixed}
+
+-- a reply field: a fixed text by its bytes, any other as it is
+pub data Term : Type 0 where
+  plain_text : List ℕ → Term
+  term : Public → Term
+
+-- a reply field of the table
+abbrev pub term_of : Public → Term
+term_of (Fixed text) = plain_text text.now
+term_of t = term t
+
+-- a row with its texts and lists as lists; a console row has no reply code
+pub record RowShape : Type 0 where
+  pub code : List ℕ
+  pub reply : List ℕ
+  pub fields : List Field
+  pub terms : List Term
+
+-- a row of the table
+abbrev pub shape_of : Row → RowShape
+shape_of r = record { code = r.code.now; reply = r.reply.now; fields = r.fields.now; terms = map term_of r.terms.now }
+
+-- the row that is pointed to
+abbrev pub shown_shape : Bor Row → RowShape
+shown_shape r = shape_of r.now
+
+-- a field of the form, with its code
+abbrev pub field : Form → ℕ → Field
+field f c = record { form = f; code = record { 0 = c } }
+
+-- a row of these columns
+abbrev pub make_row : List ℕ → List ℕ → List Field → List Term → RowShape
+make_row c r f t = record { code = c; reply = r; fields = f; terms = t }
+
+-- A0: draw a key
+unfoldable pub row_A0 : RowShape
+row_A0 =
+    make_row (codes "A0") (codes "A1")
+    (field form.ZeroToOne 15 ∷ field form.KeyType 4 ∷ field form.Scheme 26 ∷ field form.Mode1Wrapper 15 ∷ field form.Mode1Key 15 ∷ field form.Mode1WrapScheme 26 ∷ [])
+    (term (public.Sealed secret.DrawnKey) ∷ term (public.SealedUnder secret.DrawnKey 4) ∷ term (public.CheckValue secret.DrawnKey) ∷ [])
+
+-- A6: import a key
+unfoldable pub row_A6 : RowShape
+row_A6 =
+    make_row (codes "A6") (codes "A7")
+    (field form.KeyType 4 ∷ field form.Key 15 ∷ field form.WrappedKey 15 ∷ field form.Scheme 26 ∷ [])
+    (term (public.Sealed (secret.OpenedUnder 2 1)) ∷ term (public.CheckValue (secret.OpenedUnder 2 1)) ∷ [])
+
+-- A8: export a key
+unfoldable pub row_A8 : RowShape
+row_A8 =
+    make_row (codes "A8") (codes "A9")
+    (field form.KeyType 4 ∷ field form.Wrapper 15 ∷ field form.Key 15 ∷ field form.Key 15 ∷ field form.WrapScheme 26 ∷ [])
+    (term (public.SealedUnder (secret.Opened 3) 2) ∷ term (public.CheckValue (secret.Opened 3)) ∷ [])
+
+-- BU: the check value of a key
+unfoldable pub row_BU : RowShape
+row_BU =
+    make_row (codes "BU") (codes "BV")
+    (field form.Type2 4 ∷ field form.Flag 5 ∷ field (form.KeyByFlag 1) 15 ∷ field (form.FfSemicolon 0) 15 ∷ field (form.FfType 0) 4 ∷ [])
+    (term (public.CheckValue (secret.Opened 2)) ∷ [])
+
+-- CA: translate a PIN block from a TPK to a ZPK
+unfoldable pub row_CA : RowShape
+row_CA =
+    make_row (codes "CA") (codes "CB")
+    (field form.Key 15 ∷ field form.Key 15 ∷ field form.Length 15 ∷ field form.Hex16 15 ∷ field form.Format 23 ∷ field form.Format 23 ∷ field form.Digits12 15 ∷ [])
+    (term (public.PinLength (secret.PinOf 3)) ∷ term (public.BlockUnder (secret.PinOf 3) 1) ∷ term (public.Given 5) ∷ [])
+
+-- CC: translate a PIN block from a ZPK to a ZPK
+unfoldable pub row_CC : RowShape
+row_CC =
+    make_row (codes "CC") (codes "CD")
+    (field form.Key 15 ∷ field form.Key 15 ∷ field form.Length 15 ∷ field form.Hex16 15 ∷ field form.Format 23 ∷ field form.Format 23 ∷ field form.Digits12 15 ∷ [])
+    (term (public.PinLength (secret.PinOf 3)) ∷ term (public.BlockUnder (secret.PinOf 3) 1) ∷ term (public.Given 5) ∷ [])
+
+-- DE: make an offset
+unfoldable pub row_DE : RowShape
+row_DE =
+    make_row (codes "DE") (codes "DF")
+    (field form.Key 15 ∷ field form.Hex16 15 ∷ field form.Length 15 ∷ field form.Digits12 15 ∷ field form.Digits16 15 ∷ field form.Validation 15 ∷ [])
+    (term public.Offset ∷ [])
+
+-- DG: make a PVV
+unfoldable pub row_DG : RowShape
+row_DG =
+    make_row (codes "DG") (codes "DH")
+    (field form.Pair 15 ∷ field form.Hex16 15 ∷ field form.Digits12 15 ∷ field form.Digits1 15 ∷ [])
+    (term public.Pvv ∷ [])
+
+-- DA: verify a terminal's PIN by an offset
+unfoldable pub row_DA : RowShape
+row_DA =
+    make_row (codes "DA") (codes "DB")
+    (field form.Key 15 ∷ field form.Key 15 ∷ field form.Length 15 ∷ field form.Hex16 15 ∷ field form.Format 23 ∷ field form.Length 15 ∷ field form.Digits12 15 ∷ field form.Digits16 15 ∷ field form.Validation 15 ∷ field (form.Offset 5) 15 ∷ [])
+    []
+
+-- EA: verify another zone's PIN by an offset
+unfoldable pub row_EA : RowShape
+row_EA =
+    make_row (codes "EA") (codes "EB")
+    (field form.Key 15 ∷ field form.Key 15 ∷ field form.Length 15 ∷ field form.Hex16 15 ∷ field form.Format 23 ∷ field form.Length 15 ∷ field form.Digits12 15 ∷ field form.Digits16 15 ∷ field form.Validation 15 ∷ field (form.Offset 5) 15 ∷ [])
+    []
+
+-- DC: verify a terminal's PIN by a PVV
+unfoldable pub row_DC : RowShape
+row_DC =
+    make_row (codes "DC") (codes "DD")
+    (field form.Key 15 ∷ field form.Pair 15 ∷ field form.Hex16 15 ∷ field form.Format 23 ∷ field form.Digits12 15 ∷ field form.Digits1 15 ∷ field form.Digits4 15 ∷ [])
+    []
+
+-- EC: verify another zone's PIN by a PVV
+unfoldable pub row_EC : RowShape
+row_EC =
+    make_row (codes "EC") (codes "ED")
+    (field form.Key 15 ∷ field form.Pair 15 ∷ field form.Hex16 15 ∷ field form.Format 23 ∷ field form.Digits12 15 ∷ field form.Digits1 15 ∷ field form.Digits4 15 ∷ [])
+    []
+
+-- BA: seal a clear PIN
+unfoldable pub row_BA : RowShape
+row_BA =
+    make_row (codes "BA") (codes "BB")
+    (field form.ClearPin 15 ∷ field form.Digits12 15 ∷ [])
+    (term (public.SealedPin (secret.GivenPin 0)) ∷ [])
+
+-- NG: show a PIN
+unfoldable pub row_NG : RowShape
+row_NG =
+    make_row (codes "NG") (codes "NH")
+    (field form.Digits12 15 ∷ field form.Hex16 15 ∷ [])
+    (term (public.Show (secret.GivenPin 1)) ∷ [])
+
+-- JA: draw a PIN
+unfoldable pub row_JA : RowShape
+row_JA =
+    make_row (codes "JA") (codes "JB")
+    (field form.Digits12 15 ∷ field form.Length 15 ∷ [])
+    (term (public.SealedPin secret.DrawnPin) ∷ [])
+
+-- CW: make a CVV
+unfoldable pub row_CW : RowShape
+row_CW =
+    make_row (codes "CW") (codes "CX")
+    (field form.Pair 15 ∷ field form.Account 15 ∷ field form.Digits4 15 ∷ field form.Digits3 15 ∷ [])
+    (term public.Cvv ∷ [])
+
+-- CY: verify a CVV
+unfoldable pub row_CY : RowShape
+row_CY =
+    make_row (codes "CY") (codes "CZ")
+    (field form.Pair 15 ∷ field form.Digits3 15 ∷ field form.Account 15 ∷ field form.Digits4 15 ∷ field form.Digits3 15 ∷ [])
+    []
+
+-- M6: make a MAC
+unfoldable pub row_M6 : RowShape
+row_M6 =
+    make_row (codes "M6") (codes "M7")
+    (field form.ZeroToThree 15 ∷ field form.ZeroToTwo 15 ∷ field form.ZeroToOne 15 ∷ field form.OneOrThree 15 ∷ field form.ZeroToThree 15 ∷ field form.MacType 4 ∷ field form.Key 15 ∷ field form.Mode23Chain 15 ∷ field form.Count 15 ∷ field (form.DataByInput 1) 15 ∷ [])
+    (term public.Mac ∷ term public.Chain ∷ [])
+
+-- M8: verify a MAC
+unfoldable pub row_M8 : RowShape
+row_M8 =
+    make_row (codes "M8") (codes "M9")
+    (field form.ZeroToThree 15 ∷ field form.ZeroToTwo 15 ∷ field form.ZeroToOne 15 ∷ field form.OneOrThree 15 ∷ field form.ZeroToThree 15 ∷ field form.MacType 4 ∷ field form.Key 15 ∷ field form.Mode23Chain 15 ∷ field form.Count 15 ∷ field (form.DataByInput 1) 15 ∷ field (form.Mode03Mac 2) 15 ∷ [])
+    (term public.Chain ∷ [])
+
+-- B2: echo data
+unfoldable pub row_B2 : RowShape
+row_B2 =
+    make_row (codes "B2") (codes "B3")
+    (field form.Count 15 ∷ field form.Data 15 ∷ [])
+    (term (public.Given 1) ∷ [])
+
+-- NC: the LMK check
+unfoldable pub row_NC : RowShape
+row_NC =
+    make_row (codes "NC") (codes "ND")
+    []
+    (term public.LmkCheck ∷ plain_text (codes "0001-LAB1") ∷ [])
+
+-- NO: the state of the module
+unfoldable pub row_NO : RowShape
+row_NO =
+    make_row (codes "NO") (codes "NP")
+    (field form.TwoZeros 15 ∷ [])
+    (term public.LiveGrants ∷ term public.Hosts ∷ [])
+
+-- RA: cancel all grants
+unfoldable pub row_RA : RowShape
+row_RA =
+    make_row (codes "RA") (codes "RB")
+    []
+    []
+
+-- A: authorise an activity
+unfoldable pub row_A : RowShape
+row_A =
+    make_row (codes "A") []
+    (field form.Act 15 ∷ field form.Minutes 15 ∷ field form.Word 15 ∷ field form.Word 15 ∷ [])
+    (term public.Done ∷ [])
+
+-- C: cancel a grant, or all
+unfoldable pub row_C : RowShape
+row_C =
+    make_row (codes "C") []
+    (field form.ActOrAll 15 ∷ [])
+    (term public.Cancelled ∷ [])
+
+-- VA: list the live grants
+unfoldable pub row_VA : RowShape
+row_VA =
+    make_row (codes "VA") []
+    []
+    (term public.Grants ∷ [])
+
+-- Q: the numbers of the ledger
+unfoldable pub row_Q : RowShape
+row_Q =
+    make_row (codes "Q") []
+    []
+    (term public.Numbers ∷ [])
+
+-- LOG: list the last notes
+unfoldable pub row_LOG : RowShape
+row_LOG =
+    make_row (codes "LOG") []
+    []
+    (term public.Notes ∷ [])
+
+-- GC: draw a component
+unfoldable pub row_GC : RowShape
+row_GC =
+    make_row (codes "GC") []
+    (field form.KeyType 4 ∷ field form.Scheme 26 ∷ [])
+    (term (public.Show secret.DrawnKey) ∷ term (public.Sealed secret.DrawnKey) ∷ term (public.CheckValue secret.DrawnKey) ∷ [])
+
+-- FK: form a key from components
+unfoldable pub row_FK : RowShape
+row_FK =
+    make_row (codes "FK") []
+    (field form.KeyType 4 ∷ field form.Scheme 26 ∷ field (form.Component 1) 15 ∷ field (form.Component 1) 15 ∷ field (form.LastComponent 1) 15 ∷ [])
+    (term (public.Sealed secret.Joined) ∷ term (public.CheckValue secret.Joined) ∷ [])
+
+-- the host rows
+unfoldable pub host_rows : List RowShape
+host_rows = row_A0 ∷ row_A6 ∷ row_A8 ∷ row_BU ∷ row_CA ∷ row_CC ∷ row_DE ∷ row_DG ∷ row_DA ∷ row_EA ∷ row_DC ∷ row_EC ∷ row_BA ∷ row_NG ∷ row_JA ∷ row_CW ∷ row_CY ∷ row_M6 ∷ row_M8 ∷ row_B2 ∷ row_NC ∷ row_NO ∷ row_RA ∷ []
+
+-- the console rows
+unfoldable pub console_rows : List RowShape
+console_rows = row_A ∷ row_C ∷ row_VA ∷ row_Q ∷ row_LOG ∷ row_GC ∷ row_FK ∷ []
+
+-- all rows
+unfoldable pub all_rows : List RowShape
+all_rows = host_rows ++ console_rows
+
+-- whether the row has the code
+abbrev pub same_code : List ℕ → RowShape → Bool
+same_code c r = bytes_eq c r.code
+
+-- the row of a code among these rows
+abbrev pub row_with : List ℕ → List RowShape → Option RowShape
+row_with c = find (same_code c)
+
+-- the row is one of the host rows
+abbrev pub IsHostRow : RowShape → Type 0
+IsHostRow row = Contains host_rows row
+
+-- the row is one of the console rows
+abbrev pub IsConsoleRow : RowShape → Type 0
+IsConsoleRow row = Contains console_rows row

@@ -1,0 +1,35 @@
+//! Laws of the table and of reading.
+ghost use Rattle.std.specs.Prelude.{◌≡◌, ◌≤◌, ◌↔◌, ℕ, List, Ok, Err, Some, length, true};
+ghost use Rattle.std.specs.List.{list_all};
+ghost use Rattle.hsm_rows.specs.declared.row.Form.{Form};
+ghost use Rattle.hsm_rows.specs.declared.row.Code.{Code};
+ghost use Rattle.hsm_rows.specs.Forms.{size};
+ghost use Rattle.hsm_rows.specs.Table.{RowShape, all_rows};
+ghost use Rattle.hsm_rows.specs.Bounds.{has_few_fields, has_few_needs};
+ghost use Rattle.hsm_rows.specs.Reading.{ReadText, reading, RowReads, RowRefuses};
+ghost use Rattle.hsm_rows.specs.Clear.{OnlyNgAndGcShow, MarksAreShown, NgNeeds, GcNeeds};
+
+/// Each text has by each row just one answer: one reading, or one code that refuses it.
+pub fn one_reading()
+    ensures read { (row : RowShape) (text : List ℕ) (r : ReadText) → (reading row text ≡ Ok r) ↔ RowReads row text r }
+    ensures refused { (row : RowShape) (text : List ℕ) (code : Code) → (reading row text ≡ Err code) ↔ RowRefuses row text code }
+{}
+
+/// A text that stands is no longer than what is left.
+pub fn sizes_fit()
+    ensures { (f : Form) (earlier : List (List ℕ)) (rest : List ℕ) (n : ℕ) → size f earlier rest ≡ Some n → n ≤ length rest }
+{}
+
+/// No row but NG and GC has a reply field that shows a clear key or PIN; these two need an activity.
+pub fn clear_marks()
+    ensures only { OnlyNgAndGcShow }
+    ensures marks { MarksAreShown }
+    ensures pin { NgNeeds }
+    ensures component { GcNeeds }
+{}
+
+/// No row has more than 12 fields or more than two needs.
+pub fn few_fields_and_needs()
+    ensures fields { list_all has_few_fields all_rows ≡ true }
+    ensures needs { list_all has_few_needs all_rows ≡ true }
+{}

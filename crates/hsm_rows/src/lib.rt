@@ -1,0 +1,22 @@
+//! The command table: its rows, the forms of their fields, how a message is read by them, and the settings of the module.
+#![tactic(auto)]
+
+mod forms;
+mod laws;
+mod listing;
+mod read;
+mod row;
+mod settings;
+mod table;
+mod texts;
+
+pub use laws::{clear_marks, few_fields_and_needs, one_reading, sizes_fit};
+pub use listing::explain;
+pub use read::{Fields, read_fields};
+pub use row::{Code, Field, Form, Public, Row, Secret};
+pub use settings::Module;
+pub use table::{ROWS, console_row, row_of, rows};
+pub use texts::{decimal_value, digit, same_text, text_at};
+
+#[cfg(test)]
+mod tests;
