@@ -2,4 +2,8 @@
 #![tactic(auto)]
 
 #[cfg(test)]
+mod keys;
+#[cfg(test)]
+mod laboratory;
+#[cfg(test)]
 mod scripts;

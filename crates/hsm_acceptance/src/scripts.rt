@@ -1,77 +1,10 @@
 // Scripts of one host lane and what they print, under the LMK sets of the test laboratory.
-use hsm_io::MemSink;
-use hsm_lmk::LmkSet;
-use hsm_parity::adjust;
-use hsm_session::{Module, ScriptEnd, ScriptFault, script_run};
-use std::alloc::{Alloc, Global};
-use std::process::Abort;
+use crate::laboratory::{Set, end_of, runs};
+use hsm_session::ScriptFault;
 use std::test::Fail;
-
-// Every half is 133457799BBCDFF1.
-const PAIR_E: [u8; 16] = [
-    0x13, 0x34, 0x57, 0x79, 0x9B, 0xBC, 0xDF, 0xF1, 0x13, 0x34, 0x57, 0x79, 0x9B, 0xBC, 0xDF, 0xF1,
-];
-
-// Both halves are 0123456789ABCDEF.
-const PAIR_14: [u8; 16] = [
-    0x01, 0x23, 0x45, 0x67, 0x89, 0xAB, 0xCD, 0xEF, 0x01, 0x23, 0x45, 0x67, 0x89, 0xAB, 0xCD, 0xEF,
-];
-
-#[derive(Clone, Copy)]
-enum Set {
-    T,
-    E1,
-    E2,
-}
-
-fn pairs_of(set: Set) -> [[u8; 16]; 20] {
-    let mut pairs = [PAIR_E; 20];
-    match set {
-        Set::T => {
-            for k in 0u8..20 {
-                let pair = &mut pairs[usize::from(k)];
-                pair[..8].copy_from_slice(&adjust([32 + 2 * k; 8]));
-                pair[8..].copy_from_slice(&adjust([96 + 2 * k; 8]));
-            }
-        }
-        Set::E1 => {}
-        Set::E2 => pairs[7] = PAIR_14,
-    }
-    pairs
-}
-
-fn module_of(set: Set) -> Option<Module> {
-    let lmk = LmkSet::of(&pairs_of(set)).ok()?;
-    Some(Module { lmk, header: 4 })
-}
-
-fn end_of(entries: u64, cut: u32, short: u32) -> Result<ScriptEnd, ScriptFault> {
-    Ok(ScriptEnd {
-        entries,
-        cut,
-        short,
-    })
-}
 
 // A frame with a sealed key whose check value is D5D44F, as the line of a script.
 const ASKED: &str = "L1 001930303031425530313038354538313335343046304142343035\n";
-
-// Runs a script, and compares what it printed and how it ended.
-fn runs(
-    rt: &(impl Abort + Alloc<A = Global>),
-    set: Set,
-    script: &[u8],
-    output: &str,
-    ended: Result<ScriptEnd, ScriptFault>,
-) -> Result<(), Fail> {
-    let alloc = rt.alloc();
-    let module = module_of(set).ok_or("parity")?;
-    let mut out = MemSink::new(alloc, 1000, Vec::new(alloc))?;
-    let run = script_run(alloc, &module, script, &mut out);
-    assert_eq!(rt; run, ended);
-    assert_eq!(rt; out.bytes(), output.as_bytes());
-    Ok(())
-}
 
 #[test]
 fn check_values(rt: HostRuntime) -> Result<(), Fail> {
@@ -93,7 +26,7 @@ fn check_values(rt: HostRuntime) -> Result<(), Fail> {
             terminal,
             "L1 000E3030303142563030443544343446\nEND 1\n",
         ),
-        // An unknown command, and fields that end too soon.
+        // An unknown command, and a text that ends before the flag.
         (
             Set::E1,
             "L1 0006303030315A5A\n",
@@ -102,11 +35,17 @@ fn check_values(rt: HostRuntime) -> Result<(), Fail> {
         (
             Set::E1,
             "L1 00083030303142553031\n",
-            "L1 00083030303142563135\nEND 1\n",
+            "L1 00083030303142563035\nEND 1\n",
         ),
     ];
     for (set, script, output) in cases {
-        runs(&rt, set, script.as_bytes(), output, end_of(1, 0, 0))?;
+        runs(
+            &rt,
+            set,
+            script.as_bytes(),
+            output.as_bytes(),
+            end_of(1, 0, 0),
+        )?;
     }
     Ok(())
 }
@@ -125,7 +64,7 @@ fn frames_cut_anywhere(rt: HostRuntime) -> Result<(), Fail> {
         &rt,
         Set::E1,
         &script,
-        "L1 000E3030303142563030443544343446\nEND 1\n",
+        b"L1 000E3030303142563030443544343446\nEND 1\n",
         end_of(1, 0, 0),
     )
 }
@@ -140,14 +79,14 @@ fn ends_of_streams(rt: HostRuntime) -> Result<(), Fail> {
         &rt,
         Set::E1,
         &closed,
-        "L1 short 5\nL1 closed\nEND 0\n",
+        b"L1 short 5\nL1 closed\nEND 0\n",
         end_of(0, 0, 1),
     )?;
     runs(
         &rt,
         Set::E1,
         b"L1 0000",
-        "L1 short 0\nEND 0\n",
+        b"L1 short 0\nEND 0\n",
         end_of(0, 0, 1),
     )?;
     // A part of a frame at the end.
@@ -157,7 +96,7 @@ fn ends_of_streams(rt: HostRuntime) -> Result<(), Fail> {
         &rt,
         Set::E1,
         &cut,
-        "L1 000E3030303142563030443544343446\nL1 cut\nEND 1\n",
+        b"L1 000E3030303142563030443544343446\nL1 cut\nEND 1\n",
         end_of(1, 1, 0),
     )?;
     // Two messages in one piece, the second one in lower case.
@@ -167,7 +106,7 @@ fn ends_of_streams(rt: HostRuntime) -> Result<(), Fail> {
         &rt,
         Set::E1,
         two,
-        "L1 000E3030303142563030443544343446\nL1 000E3030303142563030443544343446\nL1 short 0\nEND 2\n",
+        b"L1 000E3030303142563030443544343446\nL1 000E3030303142563030443544343446\nL1 short 0\nEND 2\n",
         end_of(2, 0, 1),
     )
 }
@@ -185,7 +124,7 @@ fn lines_that_do_not_read(rt: HostRuntime) -> Result<(), Fail> {
         (b"L1 00\r\n", 1),
     ];
     for (script, line) in cases {
-        runs(&rt, Set::E1, script, "", Err(ScriptFault::Line(line)))?;
+        runs(&rt, Set::E1, script, b"", Err(ScriptFault::Line(line)))?;
     }
     Ok(())
 }

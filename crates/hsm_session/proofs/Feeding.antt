@@ -7,44 +7,48 @@ use Rattle.hsm_frame.specs.Frames.{frame, IsMessage, IsShort, IsTail, StreamEnd}
 use Rattle.hsm_frame.specs.Calls.{Held, IsNotYet}
 use Rattle.hsm_io.specs.Texts.{Appends}
 use Rattle.hsm_io.proofs.TextLemmas.{appends_twice}
-use Rattle.hsm_session.specs.Runs.{reply_line, piece_text, after_answers, short_line, closed_line}
-use Rattle.hsm_session.specs.Lanes.{answer_lines, Drains, IsBehind, FeedsPiece, end_of}
+use Rattle.hsm_auth.specs.declared.entry.Entry.{Entry}
+use Rattle.hsm_auth.specs.declared.ledger.Ledger.{Ledger}
+use Rattle.hsm_rows.specs.declared.settings.Module.{Module}
+use Rattle.hsm_session.specs.Booking.{answer_lines, Books, BooksAll}
+use Rattle.hsm_session.specs.Runs.{piece_text, after_answers, short_line, closed_line}
+use Rattle.hsm_session.specs.Lanes.{Drains, IsBehind, FeedsPiece, end_of}
 use Rattle.hsm_session.specs.declared.lane.Lane.{Lane}
 use Rattle.hsm_session.specs.declared.lane.Drained.{Drained}
 use Rattle.hsm_session.proofs.Answering.{each_append}
+use Rattle.hsm_session.proofs.BookingLaws.{books_none, books_twice}
 
--- A part of a piece was fed to an open lane and its messages were answered. The lane is open, and waits.
-pub record Feeds (answer : List ℕ → List ℕ) (old new : Lane) (part : List ℕ) (before after : List ℕ → Type 0) : Type 0 where
+-- A part of a piece was fed to an open lane and its messages were booked and answered. The lane is open, and waits.
+pub record Feeds (m : Module) (old new : Lane) (part : List ℕ) (was is : Ledger) (before after : List ℕ → Type 0) : Type 0 where
   pub messages : List (List ℕ)
   pub split : old.frames.bytes ++ part ≡ flat_map frame messages ++ new.frames.bytes
   pub each : AllByRecursion (IsMessage old.frames.least) messages
   pub least : new.frames.least ≡ old.frames.least
-  pub printed : Appends before after (answer_lines answer messages)
+  pub booked : BooksAll m messages was is before after
   pub count : new.entries ≡ old.entries + length messages
   pub spent : new.entries + length new.frames.bytes ≤ old.entries + length old.frames.bytes + length part
 
-pub feeds_none : (answer : List ℕ → List ℕ) (old : Lane) (before : List ℕ → Type 0) → Feeds answer old old [] before before
-feeds_none answer old before = record {
+pub feeds_none : (m : Module) (old : Lane) (was : Ledger) (before : List ℕ → Type 0) → Feeds m old old [] was was before before
+feeds_none m old was before = record {
   messages = [];
   split = append-nil old.frames.bytes;
   each = tt;
   least = refl;
-  printed = λ base h. subst before (sym (append-nil base)) h;
+  booked = books_none m was before;
   count = omega arith;
   spent = omega arith;
 }
 
 -- one more part
-pub feeds_more : (answer : List ℕ → List ℕ) (old mid new : Lane) (part next : List ℕ) (fed left : Held) (before between after : List ℕ → Type 0) (drained : Drained)
-    → Feeds answer old mid part before between
+pub feeds_more : (m : Module) (old mid new : Lane) (part next : List ℕ) (fed left : Held) (was between is : Ledger) (before now after : List ℕ → Type 0) (drained : Drained)
+    → Feeds m old mid part was between before now
     → fed ≡ record { least = mid.frames.least; bytes = mid.frames.bytes ++ next }
-    → Drains answer fed left between after drained
+    → Drains m fed left between is now after drained
     → new.frames ≡ left → new.entries ≡ mid.entries + drained.answered
-    → Feeds answer old new (part ++ next) before after
-feeds_more answer old mid new part next fed left before between after drained f is d same count =
-    let line : List ℕ → List ℕ = λ m. reply_line (answer m) in
-    let fed_bytes : fed.bytes ≡ mid.frames.bytes ++ next = ap (λ (h : Held). h.bytes) is in
-    let fed_least : fed.least ≡ mid.frames.least = ap (λ (h : Held). h.least) is in
+    → Feeds m old new (part ++ next) was is before after
+feeds_more m old mid new part next fed left was between is before now after drained f held d same count =
+    let fed_bytes : fed.bytes ≡ mid.frames.bytes ++ next = ap (λ (h : Held). h.bytes) held in
+    let fed_least : fed.least ≡ mid.frames.least = ap (λ (h : Held). h.least) held in
     let new_bytes : new.frames.bytes ≡ left.bytes = ap (λ (h : Held). h.bytes) same in
     let split : mid.frames.bytes ++ next ≡ flat_map frame d.messages ++ new.frames.bytes =
     sym fed_bytes ∙ d.split ∙ ap (λ (rest : List ℕ). flat_map frame d.messages ++ rest) (sym new_bytes) in
@@ -60,9 +64,7 @@ feeds_more answer old mid new part next fed left before between after drained f 
       each = each_append old.frames.least f.messages d.messages f.each
           (subst (λ (n : ℕ). AllByRecursion (IsMessage n) d.messages) (fed_least ∙ f.least) d.each);
       least = ap (λ (h : Held). h.least) same ∙ d.least ∙ fed_least ∙ f.least;
-      printed =
-          subst (Appends before after) (sym (flat_map-append line f.messages d.messages))
-          (appends_twice before between after (answer_lines answer f.messages) (answer_lines answer d.messages) f.printed d.printed);
+      booked = books_twice m f.messages d.messages was between is before now after f.booked d.booked;
       count = omega (arith, count, d.count, f.count, length-append f.messages d.messages);
       spent = omega (arith, count, d.spent, f.spent, length-append part next, ap length fed_bytes ∙ length-append mid.frames.bytes next, ap length new_bytes);
     }
@@ -81,10 +83,23 @@ short_more least n [] more short = absurd short
 short_more least n (high ∷ []) more short = absurd short
 short_more least n (high ∷ low ∷ rest) more short = short
 
-pub text_open : (answer : List ℕ → List ℕ) (held : List ℕ) (messages : List (List ℕ)) (after : StreamEnd)
-    → piece_text answer (end_of None held) messages after ≡ answer_lines answer messages ++ after_answers after
-text_open answer [] messages after = refl
-text_open answer (byte ∷ held) messages after = refl
+pub text_open : (m : Module) (h : List Entry) (held : List ℕ) (messages : List (List ℕ)) (after : StreamEnd)
+    → piece_text m h (end_of None held) messages after ≡ answer_lines m h messages ++ after_answers after
+text_open m h [] messages after = refl
+text_open m h (byte ∷ held) messages after = refl
+
+-- booked messages, and what more is printed after them
+books_text : (m : Module) (h : List Entry) (messages : List (List ℕ)) (text more : List ℕ) (ledger : Ledger) (before between after : List ℕ → Type 0)
+    → Books m h messages (answer_lines m h messages) ledger before between → Appends between after more → answer_lines m h messages ++ more ≡ text
+    → Books m h messages text ledger before after
+books_text m h messages text more ledger before between after b printed is = record {
+  stands = b.stands;
+  legal = b.legal;
+  printed = subst (Appends before after) is (appends_twice before between after (answer_lines m h messages) more b.printed printed);
+}
+
+appends_nothing : (at : List ℕ → Type 0) → Appends at at []
+appends_nothing at = λ base b. subst at (sym (append-nil base)) b
 
 pub nothing_after : (held : List ℕ) → after_answers (end_of None held) ≡ []
 nothing_after [] = refl
@@ -119,53 +134,52 @@ joined old mid fed part messages more whole split =
     ∙ ap (λ (front : List ℕ). front ++ mid.frames.bytes) (sym (flat_map-append frame messages more))
 
 -- a whole piece was fed, and the lane is open
-pub feeds_piece : (answer : List ℕ → List ℕ) (old new : Lane) (piece : List ℕ) (before after : List ℕ → Type 0)
-    → old.short ≡ None → new.short ≡ None → Feeds answer old new piece before after
+pub feeds_piece : (m : Module) (old new : Lane) (piece : List ℕ) (was is : Ledger) (before after : List ℕ → Type 0)
+    → old.short ≡ None → new.short ≡ None → Feeds m old new piece was is before after
     → (IsNotYet old.frames.least old.frames.bytes → IsNotYet old.frames.least new.frames.bytes) → length new.frames.bytes < 65537
-    → FeedsPiece answer old new piece before after
-feeds_piece answer old new piece before after was is f waits room = record {
+    → FeedsPiece m old new piece was is before after
+feeds_piece m old new piece was is before after opened stays f waits room = record {
   least = f.least;
   spent = f.spent;
   answers = λ fed messages b.
-      let lane = is_open old fed messages was b in
+      let lane = is_open old fed messages opened b in
       let ends = tail_waits old.frames.least new.frames.bytes (waits lane.waits) in
-      let text : answer_lines answer f.messages ≡ piece_text answer (end_of old.short old.frames.bytes) f.messages (end_of new.short new.frames.bytes) =
-      sym (append-nil (answer_lines answer f.messages))
-      ∙ ap (λ (more : List ℕ). answer_lines answer f.messages ++ more)
-      (sym (nothing_after new.frames.bytes) ∙ ap (λ (s : Option ℕ). after_answers (end_of s new.frames.bytes)) (sym is))
-      ∙ sym (text_open answer old.frames.bytes f.messages (end_of new.short new.frames.bytes))
-      ∙ ap (λ (s : Option ℕ). piece_text answer (end_of s old.frames.bytes) f.messages (end_of new.short new.frames.bytes)) (sym was) in
+      let text : (h : List Entry) → answer_lines m h f.messages ++ [] ≡ piece_text m h (end_of old.short old.frames.bytes) f.messages (end_of new.short new.frames.bytes) = λ h.
+      ap (λ (more : List ℕ). answer_lines m h f.messages ++ more)
+      (sym (nothing_after new.frames.bytes) ∙ ap (λ (s : Option ℕ). after_answers (end_of s new.frames.bytes)) (sym stays))
+      ∙ sym (text_open m h old.frames.bytes f.messages (end_of new.short new.frames.bytes))
+      ∙ ap (λ (s : Option ℕ). piece_text m h (end_of s old.frames.bytes) f.messages (end_of new.short new.frames.bytes)) (sym opened) in
       let behind : IsBehind new (fed ++ piece) (messages ++ f.messages) = record {
         tail = new.frames.bytes;
         whole = joined old new fed piece messages f.messages lane.whole f.split;
         each = subst (λ (n : ℕ). AllByRecursion (IsMessage n) (messages ++ f.messages)) (sym f.least)
             (each_append old.frames.least messages f.messages lane.each f.each);
         ends = subst (λ (n : ℕ). IsTail n (end_of new.short new.frames.bytes) new.frames.bytes) (sym f.least)
-            (subst (λ (s : Option ℕ). IsTail old.frames.least (end_of s new.frames.bytes) new.frames.bytes) (sym is) ends);
+            (subst (λ (s : Option ℕ). IsTail old.frames.least (end_of s new.frames.bytes) new.frames.bytes) (sym stays) ends);
         held = λ none. refl;
         room = room;
         count = omega (arith, f.count, b.count, length-append messages f.messages);
       } in
-      (f.messages, behind, subst (Appends before after) text f.printed);
+      (f.messages, behind, λ h stands. books_text m h f.messages _ [] is before after after (f.booked h stands) (appends_nothing after) (text h));
 }
 
 -- a part of a piece was fed, and then a short frame closed the lane
-pub feeds_short : (answer : List ℕ → List ℕ) (old mid new : Lane) (piece part rest : List ℕ) (n : ℕ) (before between after : List ℕ → Type 0)
-    → old.short ≡ None → piece ≡ part ++ rest → Feeds answer old mid part before between → IsShort old.frames.least n mid.frames.bytes
+pub feeds_short : (m : Module) (old mid new : Lane) (piece part rest : List ℕ) (n : ℕ) (was is : Ledger) (before between after : List ℕ → Type 0)
+    → old.short ≡ None → piece ≡ part ++ rest → Feeds m old mid part was is before between → IsShort old.frames.least n mid.frames.bytes
     → new.short ≡ Some n → new.entries ≡ mid.entries → new.frames ≡ record { least = mid.frames.least; bytes = [] } → Appends between after (short_line n)
-    → FeedsPiece answer old new piece before after
-feeds_short answer old mid new piece part rest n before between after was parts f short closed entries cleared printed =
+    → FeedsPiece m old new piece was is before after
+feeds_short m old mid new piece part rest n was is before between after opened parts f short closed entries cleared printed =
     let least : new.frames.least ≡ old.frames.least = ap (λ (h : Held). h.least) cleared ∙ f.least in
     let bytes : new.frames.bytes ≡ [] = ap (λ (h : Held). h.bytes) cleared in
     record {
       least = least;
       spent = omega (arith, f.spent, entries, ap length bytes, ap length parts ∙ length-append part rest);
       answers = λ fed messages b.
-          let lane = is_open old fed messages was b in
-          let text : answer_lines answer f.messages ++ short_line n ≡ piece_text answer (end_of old.short old.frames.bytes) f.messages (end_of new.short new.frames.bytes) =
-          ap (λ (s : Option ℕ). answer_lines answer f.messages ++ after_answers (end_of s new.frames.bytes)) (sym closed)
-          ∙ sym (text_open answer old.frames.bytes f.messages (end_of new.short new.frames.bytes))
-          ∙ ap (λ (s : Option ℕ). piece_text answer (end_of s old.frames.bytes) f.messages (end_of new.short new.frames.bytes)) (sym was) in
+          let lane = is_open old fed messages opened b in
+          let text : (h : List Entry) → answer_lines m h f.messages ++ short_line n ≡ piece_text m h (end_of old.short old.frames.bytes) f.messages (end_of new.short new.frames.bytes) = λ h.
+          ap (λ (s : Option ℕ). answer_lines m h f.messages ++ after_answers (end_of s new.frames.bytes)) (sym closed)
+          ∙ sym (text_open m h old.frames.bytes f.messages (end_of new.short new.frames.bytes))
+          ∙ ap (λ (s : Option ℕ). piece_text m h (end_of s old.frames.bytes) f.messages (end_of new.short new.frames.bytes)) (sym opened) in
           let behind : IsBehind new (fed ++ piece) (messages ++ f.messages) = record {
             tail = mid.frames.bytes ++ rest;
             whole =
@@ -182,18 +196,18 @@ feeds_short answer old mid new piece part rest n before between after was parts 
             room = omega (arith, ap length bytes);
             count = omega (arith, f.count, entries, b.count, length-append messages f.messages);
           } in
-          (f.messages, behind, subst (Appends before after) text (appends_twice before between after (answer_lines answer f.messages) (short_line n) f.printed printed));
+          (f.messages, behind, λ h stands. books_text m h f.messages _ (short_line n) is before between after (f.booked h stands) printed (text h));
     }
 
 -- a piece came after a short frame had closed the lane
-pub feeds_closed : (answer : List ℕ → List ℕ) (old : Lane) (piece : List ℕ) (n : ℕ) (before after : List ℕ → Type 0)
-    → old.short ≡ Some n → Appends before after closed_line → FeedsPiece answer old old piece before after
-feeds_closed answer old piece n before after closed printed = record {
+pub feeds_closed : (m : Module) (old : Lane) (piece : List ℕ) (n : ℕ) (was : Ledger) (before after : List ℕ → Type 0)
+    → old.short ≡ Some n → Appends before after closed_line → FeedsPiece m old old piece was was before after
+feeds_closed m old piece n was before after closed printed = record {
   least = refl;
   spent = omega arith;
   answers = λ fed messages b.
-      let text : closed_line ≡ piece_text answer (end_of old.short old.frames.bytes) [] (end_of old.short old.frames.bytes) =
-      ap (λ (s : Option ℕ). piece_text answer (end_of s old.frames.bytes) [] (end_of old.short old.frames.bytes)) (sym closed) in
+      let text : (h : List Entry) → closed_line ≡ piece_text m h (end_of old.short old.frames.bytes) [] (end_of old.short old.frames.bytes) = λ h.
+      ap (λ (s : Option ℕ). piece_text m h (end_of s old.frames.bytes) [] (end_of old.short old.frames.bytes)) (sym closed) in
       let behind : IsBehind old (fed ++ piece) (messages ++ []) = record {
         tail = b.tail ++ piece;
         whole =
@@ -207,7 +221,7 @@ feeds_closed answer old piece n before after closed printed = record {
         room = b.room;
         count = omega (arith, b.count, length-append messages []);
       } in
-      ([], behind, subst (Appends before after) text printed);
+      ([], behind, λ h stands. books_text m h [] _ closed_line was before before after (books_none m was before h stands) printed (text h));
 }
 
 -- one more part of a piece

@@ -1,7 +1,9 @@
 pub mod LineLaws
 pub mod TextLaws
-pub mod AnswerLaws
+pub mod BookingLaws
 pub mod Answering
 pub mod Feeding
 pub mod PieceLaws
 pub mod Progress
+pub mod PlanLaws
+pub mod BuiltLaws

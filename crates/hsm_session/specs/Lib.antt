@@ -1,6 +1,6 @@
-pub mod Answers
+pub mod Plans
+pub mod Booking
 pub mod Scripts
 pub mod Runs
 pub mod Lanes
 pub mod Reading
-pub mod Keys

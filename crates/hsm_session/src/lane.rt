@@ -4,23 +4,26 @@ ghost use Rattle.std.specs.Prelude.{◌≡◌, ◌+◌, ◌<◌, ◌≤◌, [], 
 ghost use Rattle.arrayvec.specs.ArrayVec.{array_vec_len};
 ghost use Rattle.hsm_io.specs.Outside.{Rose};
 ghost use Rattle.hsm_io.specs.Texts.{Appends};
-ghost use Rattle.hsm_session.specs.Answers.{answer_of};
-ghost use Rattle.hsm_session.specs.Runs.{counts, last_text, last_words, least_length, reply_line, short_line};
+ghost use Rattle.hsm_session.specs.Plans.{IsBuilt, least_length};
+ghost use Rattle.hsm_session.specs.Booking.{BooksAll, IsKnown};
+ghost use Rattle.hsm_session.specs.Runs.{counts, last_text, last_words, short_line};
 ghost use Rattle.hsm_session.specs.Lanes.{Drains, FeedsPiece, end_of};
 
-use crate::answers::answer;
-use crate::module::Module;
+use crate::plans::{Kind, finish, prepare};
 use crate::script::ScriptEnd;
 use crate::text::{append, append_hex};
 use arrayvec::ArrayVec;
+use hsm_auth::Ledger;
 use hsm_frame::{Frames, Next, frame_into};
 use hsm_io::{OutFailed, Sink, write_all};
+use hsm_rows::Module;
+use hsm_text::Reply;
 use itoa::Buffer;
 
 /// The room in which replies and lines are put together.
 #[derive(Drop)]
 pub struct Buffers {
-    reply: ArrayVec<u8, 65535>,
+    reply: Reply,
     frame: ArrayVec<u8, 65537>,
     line: ArrayVec<u8, 131_080>,
 }
@@ -28,31 +31,35 @@ pub struct Buffers {
 impl Buffers {
     /// Empty buffers.
     pub fn new() -> Buffers
-        ensures reply { result.reply.items ≡ [] }
         ensures frame { result.frame.items ≡ [] }
         ensures line { result.line.items ≡ [] }
     {
         Buffers {
-            reply: ArrayVec::new(),
+            reply: Reply::new(),
             frame: ArrayVec::new(),
             line: ArrayVec::new(),
         }
     }
 
-    // Prints the answer of a message.
+    // Books the ask of a message and prints its answer.
     fn print_answer<S: Sink>(
         &mut self,
         module: &Module,
+        ledger: &mut Ledger,
         message: &[u8],
         out: &mut S,
     ) -> Result<(), OutFailed>
-        requires { least_length «module».now ≤ length message.now }
-        ensures ok { OnOk result (Appends (S.stands_for out.old) (S.stands_for out.new) (reply_line (answer_of «module».now message.now))) }
+        requires built { IsBuilt «module».now }
+        requires known { IsKnown ledger.old }
+        requires least { least_length «module».now ≤ length message.now }
+        ensures booked { OnOk result (BooksAll «module».now (message.now ∷ []) ledger.old ledger.new (S.stands_for out.old) (S.stands_for out.new)) }
         ensures failed { OnErr result (Rose (S.faults out.old) (S.faults out.new)) }
         ensures kept { OnOk result (S.faults out.new ≡ S.faults out.old) }
     {
-        answer(module, message, &mut self.reply);
-        frame_into(&self.reply, &mut self.frame);
+        let plan = prepare(module, Kind::Host, message);
+        let granted = ledger.step(0, &plan.ask());
+        finish(module, &plan, &granted, &mut self.reply);
+        frame_into(self.reply.bytes(), &mut self.frame);
         self.line.clear();
         append(&mut self.line, b"L1 ");
         append_hex(&mut self.line, &self.frame);
@@ -97,23 +104,26 @@ pub struct Lane {
     entries: u64,
 }
 
-// Answers the whole messages that are held.
+// Books and answers the whole messages that are held.
 fn answer_held<S: Sink>(
     module: &Module,
+    ledger: &mut Ledger,
     frames: &mut Frames,
     buffers: &mut Buffers,
     out: &mut S,
 ) -> Result<Drained, OutFailed>
+    requires built { IsBuilt «module».now }
+    requires known { IsKnown ledger.old }
     requires least { frames.old.least ≡ least_length «module».now }
     requires room { length frames.old.bytes ≤ 65537 }
-    ensures drains { IfOk result (Drains (answer_of «module».now) frames.old frames.new (S.stands_for out.old) (S.stands_for out.new)) }
+    ensures drains { IfOk result (Drains «module».now frames.old frames.new ledger.old ledger.new (S.stands_for out.old) (S.stands_for out.new)) }
     ensures failed { OnErr result (Rose (S.faults out.old) (S.faults out.new)) }
     ensures kept { OnOk result (S.faults out.new ≡ S.faults out.old) }
 {
     let mut answered = 0;
     'messages: loop {
         match frames.next() {
-            Next::Message(message) => buffers.print_answer(module, message, out)?,
+            Next::Message(message) => buffers.print_answer(module, ledger, message, out)?,
             Next::Short(length) => {
                 return Ok(Drained {
                     answered,
@@ -143,18 +153,21 @@ impl Lane {
         }
     }
 
-    /// Feeds the piece of a line, and prints what it answers.
+    /// Feeds the piece of a line, books its messages, and prints what they are answered.
     pub fn take_piece<S: Sink>(
         &mut self,
         module: &Module,
+        ledger: &mut Ledger,
         piece: &[u8],
         buffers: &mut Buffers,
         out: &mut S,
     ) -> Result<(), OutFailed>
+        requires built { IsBuilt «module».now }
+        requires known { IsKnown ledger.old }
         requires least { self.old.frames.least ≡ least_length «module».now }
         requires held { length self.old.frames.bytes < 65537 }
         requires room { self.old.entries + length self.old.frames.bytes + length piece.now < 2 ^ 64 }
-        ensures feeds { OnOk result (FeedsPiece (answer_of «module».now) self.old self.new piece.now (S.stands_for out.old) (S.stands_for out.new)) }
+        ensures feeds { OnOk result (FeedsPiece «module».now self.old self.new piece.now ledger.old ledger.new (S.stands_for out.old) (S.stands_for out.new)) }
         ensures failed { OnErr result (Rose (S.faults out.old) (S.faults out.new)) }
         ensures kept { OnOk result (S.faults out.new ≡ S.faults out.old) }
     {
@@ -165,7 +178,7 @@ impl Lane {
         let mut rest = piece;
         'chunks: while !rest.is_empty() {
             let taken = self.frames.feed(rest);
-            let drained = answer_held(module, &mut self.frames, buffers, out)?;
+            let drained = answer_held(module, ledger, &mut self.frames, buffers, out)?;
             self.entries += drained.answered;
             rest = &rest[taken..];
             if let Some(length) = drained.short {

@@ -1,13 +1,15 @@
-//! What the module answers to a host's messages, and runs of scripts.
+//! What the module asks of the ledger and answers to a host's messages, and runs of scripts.
 #![tactic(auto)]
 
-mod answers;
+mod built;
 mod lane;
-mod module;
 mod pieces;
+mod plans;
 mod script;
 mod text;
+mod whole;
 
-pub use answers::answer;
-pub use module::Module;
+pub use built::unbuilt;
+pub use plans::{Kind, Plan, finish, prepare};
 pub use script::{ScriptEnd, ScriptFault, script_run};
+pub use whole::answer;

@@ -1,3 +1,5 @@
 pub mod FilesLaws
+pub mod PermitLaws
 pub mod RowLaws
+pub mod ScriptLaws
 pub mod SetLaws

@@ -1,11 +1,13 @@
 -- The answers of the top call and their causes.
-use Rattle.std.specs.Prelude.{◌≡◌, ℕ, ◌+◌, ◌<◌, ◌≤◌, ◌⊎◌, ◌==◌, List, length, if◌then◌else◌, Ok, Err}
+use Rattle.std.specs.Prelude.{◌≡◌, ℕ, ◌+◌, ◌<◌, ◌≤◌, ◌⊎◌, ◌==◌, List, [], length, if◌then◌else◌, Ok, Err}
 use Rattle.hsm_io.specs.Outside.{Rose}
 use Rattle.hsm_io.specs.Files.{kept_name}
 use Rattle.hsm_io.specs.Texts.{Appends, Stays}
 use Rattle.hsm_rows.specs.Table.{RowShape}
 use Rattle.hsm_rows.specs.Explain.{explain_text}
-use Rattle.hsm_session.specs.declared.module.Module.{Module}
+use Rattle.hsm_auth.specs.declared.entry.Entry.{Entry}
+use Rattle.hsm_auth.specs.History.{IsLegal}
+use Rattle.hsm_rows.specs.declared.settings.Module.{Module}
 use Rattle.hsm_session.specs.declared.script.ScriptEnd.{ScriptEnd}
 use Rattle.hsm_session.specs.Scripts.{pieces_of}
 use Rattle.hsm_session.specs.Runs.{Told}
@@ -43,12 +45,12 @@ WithoutFile (explain row) P = P
 abbrev pub status_of : ScriptEnd → ℕ
 status_of over = if over.cut + over.short == 0 then 0 else 6
 
--- The outcome, the status and what was written, by the bytes of the script's file. A fault and want of memory have their causes elsewhere.
+-- The outcome, the status and what was written, by the bytes of the script's file, over one legal history from the opening ledger. A fault and want of memory have their causes elsewhere.
 abbrev pub AnswersScript : Module → List ℕ → (List ℕ → Type 0) → (List ℕ → Type 0) → ℕ → Outcome → Type 0
 AnswersScript m bytes before after status Served =
     (length bytes ≤ file_limit)
-    × ((pieces : List (List ℕ)) × (text : List ℕ) × (over : ScriptEnd)
-    × (pieces_of bytes ≡ Ok pieces) × Told m pieces text over × Appends before after text × (status ≡ status_of over))
+    × ((pieces : List (List ℕ)) × (last : List Entry) × (text : List ℕ) × (over : ScriptEnd)
+    × (pieces_of bytes ≡ Ok pieces) × Told m [] pieces last text over × IsLegal last × Appends before after text × (status ≡ status_of over))
 AnswersScript m bytes before after status OutFault = (length bytes ≤ file_limit) × ((pieces : List (List ℕ)) × (pieces_of bytes ≡ Ok pieces))
 AnswersScript m bytes before after status FileLong = file_limit < length bytes
 AnswersScript m bytes before after status (ScriptRefused line) = (length bytes ≤ file_limit) × (pieces_of bytes ≡ Err line)

@@ -2,7 +2,11 @@
 use Rattle.std.specs.Prelude.{ℕ, ◌+◌, ◌*◌, List, [], ◌∷◌, ◌++◌, map, replicate, slice_set, if◌then◌else◌, Option, Some, None, codes, bytes_eq}
 use Rattle.hsm_parity.specs.Parity.{adjusted_byte}
 use Rattle.hsm_lmk.specs.Sealing.{pair_key}
-use Rattle.hsm_session.specs.declared.module.Module.{Module}
+use Rattle.hsm_types.specs.declared.types.Permits.{Permits}
+use Rattle.hsm_types.specs.declared.types.KeyType.TheVariants.{Zmk, Zpk, Tpk, Cvk, Tak, Zak, Bdk, Zek, Dek}
+use Rattle.hsm_types.specs.Table.{table_line}
+use Rattle.hsm_rows.specs.declared.settings.Module.{Module}
+use Rattle.hsm_session.specs.Plans.{unbuilt}
 use Rattle.hsm_tool.specs.declared.sets.TestSet.{TestSet}
 use Rattle.hsm_tool.specs.declared.sets.TestSet.TheVariants.{T, E1, E2}
 
@@ -35,6 +39,28 @@ pairs_of T = map (λ k. even_pair (32 + 2 * k) (96 + 2 * k)) pair_numbers
 pairs_of E1 = replicate 20 (first_half ++ first_half)
 pairs_of E2 = slice_set (replicate 20 (first_half ++ first_half)) 7 (second_half ++ second_half)
 
--- the module of a set: headers of 4 bytes
+-- the permits of the table of key types
+abbrev pub table_permits : Permits
+table_permits = record {
+  zmk = (table_line Zmk).permits;
+  zpk = (table_line Zpk).permits;
+  tpk = (table_line Tpk).permits;
+  cvk = (table_line Cvk).permits;
+  tak = (table_line Tak).permits;
+  zak = (table_line Zak).permits;
+  bdk = (table_line Bdk).permits;
+  zek = (table_line Zek).permits;
+  dek = (table_line Dek).permits;
+}
+
+-- the module of a set: the permits of the table, the rows disabled that are not built, headers of 4 bytes, one host, officers without words, and a seed of zeros
 abbrev pub module_of : TestSet → Module
-module_of set = record { lmk = map pair_key (pairs_of set); header = 4 }
+module_of set = record {
+  lmk = map pair_key (pairs_of set);
+  permits = table_permits;
+  disabled = record { items = unbuilt };
+  header = 4;
+  hosts = 1;
+  officers = replicate 2 (replicate 32 0);
+  seed = replicate 32 0;
+}

@@ -12,6 +12,7 @@ ghost use Rattle.hsm_tool.specs.Runs.{AnswersRow, AnswersScript, AnswersWords, F
 use crate::command::{Command, WordsFault, read_words};
 use crate::reading::{ReadingFault, read_all};
 use crate::sets::{TestSet, module_of};
+use hsm_auth::Ledger;
 use hsm_io::{Bench, Sink, write_all};
 use hsm_rows::{Row, explain};
 use hsm_session::{ScriptEnd, ScriptFault, script_run};
@@ -108,7 +109,10 @@ fn run_script<B: Bench, S: Sink>(
         Err(ReadingFault::Failed) => return end_with(3, Outcome::FileFault),
         Err(ReadingFault::Long) => return end_with(4, Outcome::FileLong),
     };
-    match script_run(alloc, &module_of(set), &bytes, out) {
+    let Ok(mut ledger) = Ledger::new(alloc) else {
+        return end_with(5, Outcome::Memory);
+    };
+    match script_run(alloc, &module_of(set), &mut ledger, &bytes, out) {
         Ok(over) => end_with(status_of(over), Outcome::Served),
         Err(ScriptFault::Line(line)) => end_with(4, Outcome::ScriptRefused(line)),
         Err(ScriptFault::Memory) => end_with(5, Outcome::Memory),

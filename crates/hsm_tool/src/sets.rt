@@ -1,10 +1,13 @@
 //! The LMK sets of the test laboratory.
 
 ghost use Rattle.std.specs.Prelude.{◌≡◌};
-ghost use Rattle.hsm_tool.specs.Sets.{module_of, set_named, pairs_of};
+ghost use Rattle.hsm_session.specs.Plans.{IsBuilt};
+ghost use Rattle.hsm_tool.specs.Sets.{module_of, set_named, pairs_of, table_permits};
 
 use hsm_lmk::LmkSet;
-use hsm_session::Module;
+use hsm_rows::Module;
+use hsm_session::unbuilt;
+use hsm_types::Permits;
 
 /// An LMK set that a word names.
 #[derive(Clone, Copy, Debug, PartialEq, Eq)]
@@ -78,12 +81,28 @@ fn pairs_of(set: TestSet) -> Pairs
     }
 }
 
-/// The module of a set: headers of 4 bytes.
+fn table_permits() -> Permits
+    ensures { result ≡ table_permits }
+{
+    Permits::table()
+}
+
+/// The module of a set: the permits of the table of key types, headers of 4 bytes, one host, officers without words, and
+/// random words of a seed of zeros. The host rows whose commands are not built are disabled.
 pub fn module_of(set: TestSet) -> Module
-    ensures { result ≡ module_of set }
+    ensures module { result ≡ module_of set }
+    ensures built { IsBuilt result }
 {
     match LmkSet::of(&pairs_of(set)) {
-        Ok(lmk) => Module { lmk, header: 4 },
+        Ok(lmk) => Module {
+            lmk,
+            permits: table_permits(),
+            disabled: unbuilt(),
+            header: 4,
+            hosts: 1,
+            officers: [[0; 32]; 2],
+            seed: [0; 32],
+        },
         Err(_) => unreachable!(),
     }
 }

@@ -1,11 +1,12 @@
 use Rattle.std.proofs.Common.{◌≡◌, length}
-use Rattle.hsm_session.specs.Answers.{answer_of}
+use Rattle.hsm_session.specs.Booking.{IsKnown}
 use Rattle.hsm_session.proofs.Answering.{Answers}
 use Rattle.hsm_session.proofs.lane.answer_held.Given as goal
 
 abbrev pub invariant-messages : goal.invariant-messages
 invariant-messages g l = record {
-  answers : Answers (answer_of l.module) l.initial.frames l.frames (g.S.Sink.stands_for l.initial.out) (g.S.Sink.stands_for l.out) l.answered;
+  answers : Answers l.module l.initial.frames l.frames l.initial.ledger l.ledger (g.S.Sink.stands_for l.initial.out) (g.S.Sink.stands_for l.out) l.answered;
+  known : IsKnown l.ledger;
   kept : g.S.Sink.faults l.out ≡ g.S.Sink.faults l.initial.out;
 }
 

@@ -1,13 +1,19 @@
-use Rattle.std.proofs.Common.{◌≡◌, List, ℕ, arith, subst}
+use Rattle.std.proofs.Common.{◌≡◌, ◌∷◌, [], ◌∙◌, arith}
 use Rattle.std.proofs.lemmas.Grind.{common_steps}
-use Rattle.std.specs.Result.{OnOk}
+use Rattle.hsm_answers.specs.Messages.{host, message_answer}
 use Rattle.hsm_io.specs.Texts.{Appends}
-use Rattle.hsm_session.specs.Answers.{answer_of}
-use Rattle.hsm_session.specs.Runs.{reply_line}
+use Rattle.hsm_session.specs.Booking.{reply_line, BooksAll}
+use Rattle.hsm_session.proofs.BookingLaws.{books_one, on_ok}
 use Rattle.hsm_session.proofs.lane.Buffers.print_answer.Goals as goal
 
-pub returns-clause-ok : goal.returns-clause-ok
+pub returns-clause-booked : goal.returns-clause-booked
 unfolding reply_line
-returns-clause-ok g c =
-    let text : c.deref-3.result.now ≡ reply_line (answer_of c.args.module.now c.args.message.now) = grind (arith, common_steps) in
-    subst (λ (t : List ℕ). OnOk c.write_all.result (Appends (g.S.Sink.stands_for c.args.out.now) (g.S.Sink.stands_for c.write_all.new.out) t)) text c.write_all.ensures.ok
+returns-clause-booked g c =
+    let m = c.args.module.now in
+    let message = c.args.message.now in
+    let before = g.S.Sink.stands_for c.args.out.now in
+    let after = g.S.Sink.stands_for c.write_all.new.out in
+    let text : c.deref-2.result.now ≡ reply_line (message_answer m host message c.step-granted.result) = grind (arith, common_steps) in
+    on_ok c.write_all.result (Appends before after c.deref-2.result.now) (BooksAll m (message ∷ []) c.args.ledger.now c.step-granted.new.self before after) c.write_all.ensures.ok
+    (books_one m message c.deref-2.result.now c.ask.result c.step-granted.result c.args.ledger.now c.step-granted.new.self before after
+    (c.ask.ensures ∙ c.prepare-plan.ensures.ask) c.step-granted.ensures.answer c.step-granted.ensures.stands c.step-granted.ensures.legal text)

@@ -1,22 +1,22 @@
-use Rattle.std.proofs.Common.{◌≡◌, ◌∙◌, ◌+◌, ◌++◌, ℕ, List, take, arith, refl, sym, ap, subst}
+use Rattle.std.proofs.Common.{[], ◌≡◌, ◌∙◌, ◌+◌, ◌++◌, ℕ, List, take, arith, refl, sym, ap, subst}
 use Rattle.hsm_frame.specs.Calls.{Held, IsNotYet}
 use Rattle.hsm_frame.specs.Frames.{IsShort}
 use Rattle.hsm_session.specs.declared.lane.Lane.{Lane}
-use Rattle.hsm_session.specs.Answers.{answer_of}
 use Rattle.hsm_session.specs.Runs.{short_line, closed_line}
-use Rattle.hsm_session.proofs.Feeding.{Feeds, feeds_more, feeds_piece, feeds_short, feeds_closed, parted, all_parted}
+use Rattle.hsm_session.proofs.Feeding.{Feeds, feeds_none, feeds_more, feeds_piece, feeds_short, feeds_closed, parted, all_parted}
+use Rattle.hsm_session.proofs.BookingLaws.{still_known}
 use Rattle.hsm_session.proofs.lane.Lane.take_piece.Goals as goal
 
 pub returns-in-Some-clause-feeds : goal.returns-in-Some-clause-feeds
 unfolding closed_line
 returns-in-Some-clause-feeds g c =
-    feeds_closed (answer_of c.args.module.now) c.args.self.now c.args.piece.now c.in-Some.field-0 (g.S.Sink.stands_for c.args.out.now) (g.S.Sink.stands_for c.write_all.new.out)
+    feeds_closed c.args.module.now c.args.self.now c.args.piece.now c.in-Some.field-0 c.args.ledger.now (g.S.Sink.stands_for c.args.out.now) (g.S.Sink.stands_for c.write_all.new.out)
     c.in-Some.is c.in_ok-write_all.ensures.ok
 
 pub returns-in-Some-short-clause-feeds : goal.returns-in-Some-short-clause-feeds
 unfolding short_line
 returns-in-Some-short-clause-feeds g c =
-    let answer = answer_of c.args.module.now in
+    let m = c.args.module.now in
     let before = g.S.Sink.stands_for c.args.out.now in
     let taken = c.feed-taken.result in
     let mid : Lane = record {
@@ -26,18 +26,29 @@ returns-in-Some-short-clause-feeds g c =
     } in
     let fed = c.chunks.invariant.fed in
     let drains = c.in_ok-drained.ensures.drains in
-    let feeds : Feeds answer c.args.self.now mid (fed.0 ++ take taken c.chunks.rest.now) before (g.S.Sink.stands_for c.answer_held.new.out) =
-    feeds_more answer c.args.self.now c.chunks.self mid fed.0 (take taken c.chunks.rest.now) c.feed-taken.new.self c.answer_held.new.frames before
+    let feeds : Feeds m c.args.self.now mid (fed.0 ++ take taken c.chunks.rest.now) c.args.ledger.now c.answer_held.new.ledger before (g.S.Sink.stands_for c.answer_held.new.out) =
+    feeds_more m c.args.self.now c.chunks.self mid fed.0 (take taken c.chunks.rest.now) c.feed-taken.new.self c.answer_held.new.frames
+    c.args.ledger.now c.chunks.ledger c.answer_held.new.ledger before
     (g.S.Sink.stands_for c.chunks.out) (g.S.Sink.stands_for c.answer_held.new.out) c.in_ok-drained.drained fed.2 c.feed-taken.ensures.held drains refl refl in
     let least : c.feed-taken.new.self.least ≡ c.args.self.now.frames.least = ap (λ (h : Held). h.least) c.feed-taken.ensures.held ∙ fed.2.least in
     let short = rw c.in-Some-short.is at drains.ends in
-    feeds_short answer c.args.self.now mid _ c.args.piece.now (fed.0 ++ take taken c.chunks.rest.now) _ c.in-Some-short.length before
+    feeds_short m c.args.self.now mid _ c.args.piece.now (fed.0 ++ take taken c.chunks.rest.now) _ c.in-Some-short.length c.args.ledger.now c.answer_held.new.ledger before
     (g.S.Sink.stands_for c.answer_held.new.out) (g.S.Sink.stands_for c.print_number.new.out) (c.in_default.is) (parted c.args.piece.now fed.0 c.chunks.rest.now taken fed.1)
     feeds (subst (λ (n : ℕ). IsShort n c.in-Some-short.length c.answer_held.new.frames.bytes) least short) c.in-Some-short.is refl c.reset.ensures c.in_ok-print_number.ensures.ok
 
+pub chunks-init : goal.chunks-init
+chunks-init g c = record {
+  is_open = c.in_default.is;
+  room = c.requires.held;
+  fed = ([], refl, feeds_none c.args.module.now c.args.self.now c.args.ledger.now (g.S.Sink.stands_for c.args.out.now));
+  waits = λ before. before;
+  known = c.requires.known;
+  kept = refl;
+}
+
 pub chunks-preserved : goal.chunks-preserved
 chunks-preserved g c =
-    let answer = answer_of c.args.module.now in
+    let m = c.args.module.now in
     let taken = c.feed-taken.result in
     let fed = c.chunks.invariant.fed in
     let drains = c.in_ok-drained.ensures.drains in
@@ -49,10 +60,13 @@ chunks-preserved g c =
       fed = (
         fed.0 ++ take taken c.chunks.rest.now,
         parted c.args.piece.now fed.0 c.chunks.rest.now taken fed.1,
-        feeds_more answer c.args.self.now c.chunks.self _ fed.0 (take taken c.chunks.rest.now) c.feed-taken.new.self c.answer_held.new.frames (g.S.Sink.stands_for c.args.out.now)
+        feeds_more m c.args.self.now c.chunks.self _ fed.0 (take taken c.chunks.rest.now) c.feed-taken.new.self c.answer_held.new.frames
+            c.args.ledger.now c.chunks.ledger c.answer_held.new.ledger (g.S.Sink.stands_for c.args.out.now)
             (g.S.Sink.stands_for c.chunks.out) (g.S.Sink.stands_for c.answer_held.new.out) c.in_ok-drained.drained fed.2 c.feed-taken.ensures.held drains refl refl,
       );
       waits = λ before. subst (λ (n : ℕ). IsNotYet n c.answer_held.new.frames.bytes) least waiting.no_message;
+      known = still_known m drains.messages c.chunks.ledger c.answer_held.new.ledger (g.S.Sink.stands_for c.chunks.out) (g.S.Sink.stands_for c.answer_held.new.out)
+          drains.booked c.chunks.invariant.known;
       kept = c.in_ok-drained.ensures.kept ∙ c.chunks.invariant.kept;
     }
 
@@ -60,8 +74,8 @@ pub returns-clause-feeds : goal.returns-clause-feeds
 returns-clause-feeds g c =
     let fed = c.chunks.invariant.fed in
     let whole : c.args.piece.now ≡ fed.0 = all_parted c.args.piece.now fed.0 c.chunks.rest.now fed.1 (grind arith) in
-    let answer = answer_of c.args.module.now in
-    feeds_piece answer c.args.self.now c.chunks.self c.args.piece.now (g.S.Sink.stands_for c.args.out.now) (g.S.Sink.stands_for c.chunks.out)
+    let m = c.args.module.now in
+    feeds_piece m c.args.self.now c.chunks.self c.args.piece.now c.args.ledger.now c.chunks.ledger (g.S.Sink.stands_for c.args.out.now) (g.S.Sink.stands_for c.chunks.out)
     c.in_default.is c.chunks.invariant.is_open
-    (subst (λ (part : List ℕ). Feeds answer c.args.self.now c.chunks.self part (g.S.Sink.stands_for c.args.out.now) (g.S.Sink.stands_for c.chunks.out)) (sym whole) fed.2)
+    (subst (λ (part : List ℕ). Feeds m c.args.self.now c.chunks.self part c.args.ledger.now c.chunks.ledger (g.S.Sink.stands_for c.args.out.now) (g.S.Sink.stands_for c.chunks.out)) (sym whole) fed.2)
     c.chunks.invariant.waits c.chunks.invariant.room

@@ -1,0 +1,158 @@
+// The DES work of the messages that bench/script times, over libcrypto: TURNS turns of four messages under LMK set T.
+//
+// A schedule is made for each different single-part key that a message meets, and is kept within the message alone:
+// those of the LMKs, which never change, could be kept over all messages, and a program that keeps them does less. A
+// block is one single-part DES. Three of them in a row, as a key of two parts needs, are done in one call of
+// libcrypto, which is its fastest form. The two texts of a key with tag U share the schedule of the wrapping key's
+// first part.
+//
+//     message                                     schedules                          blocks
+//     A0 of 001, U: seal; check value             3 + 2                  = 5         6 + 3          = 9
+//     A6 of 001: open ZMK (U), open key (X),
+//         seal (U), check value                   3 + 2 + 3 + 2          = 10        6 + 6 + 6 + 3  = 21
+//     BU of 001, single: open, check value        2 + 1                  = 3         3 + 1          = 4
+//     BU of 002, two parts: open (U), check value 3 + 2                  = 5         6 + 3          = 9
+//
+// A turn has 23 schedules and 43 blocks. The key that A0 draws is stood for by digits that change with each turn: its
+// drawing is no DES work. The program prints the answers to the last three messages, without header.
+#define OPENSSL_SUPPRESS_DEPRECATED
+#include <openssl/des.h>
+#include <stdint.h>
+#include <stdio.h>
+#include <stdlib.h>
+#include <string.h>
+
+enum { FIRST_VARIANT = 0xA6, SECOND_VARIANT = 0x5A };
+
+typedef unsigned char Part[8];
+
+static const Part zmk_text[2] = {
+    {0x9F, 0x9A, 0x79, 0xDC, 0xD1, 0x06, 0xB3, 0x75}, {0x84, 0xC5, 0xD3, 0xD3, 0xC4, 0x18, 0xF4, 0xAE}};
+static const Part given_text[2] = {
+    {0x1A, 0x4D, 0x67, 0x2D, 0xCA, 0x6C, 0xB3, 0x35}, {0x1F, 0xD1, 0xB0, 0x2B, 0x23, 0x7A, 0xF9, 0xAE}};
+static const Part single_text = {0x04, 0x32, 0xEB, 0x69, 0xFE, 0x76, 0x5A, 0xC4};
+static const Part double_text[2] = {
+    {0x32, 0x09, 0x8F, 0x00, 0x4A, 0x54, 0x88, 0xDB}, {0xFB, 0xEC, 0xB4, 0x11, 0xDC, 0x94, 0xFF, 0x89}};
+
+// libcrypto reads a block as two words, the first byte of each the least significant one.
+static void words_of(const Part bytes, DES_LONG words[2])
+{
+    for (int half = 0; half < 2; half++) {
+        const unsigned char *b = bytes + 4 * half;
+        words[half] = (uint32_t)b[0] | (uint32_t)b[1] << 8 | (uint32_t)b[2] << 16 | (uint32_t)b[3] << 24;
+    }
+}
+
+static void bytes_of(const DES_LONG words[2], Part bytes)
+{
+    for (int i = 0; i < 8; i++)
+        bytes[i] = (unsigned char)(words[i / 4] >> 8 * (i % 4));
+}
+
+static void schedule_of(const Part bytes, unsigned char variant, DES_key_schedule *schedule)
+{
+    DES_cblock key;
+    memcpy(key, bytes, 8);
+    key[0] ^= variant;
+    DES_set_key_unchecked(&key, schedule);
+}
+
+// One block under a key of two parts, or its inverse.
+static void triple(const Part in, DES_key_schedule *first, DES_key_schedule *second, int enciphers, Part out)
+{
+    DES_LONG words[2];
+    words_of(in, words);
+    if (enciphers)
+        DES_encrypt3(words, first, second, first);
+    else
+        DES_decrypt3(words, first, second, first);
+    bytes_of(words, out);
+}
+
+// Seals or opens a key of two parts by scheme U: 3 schedules and 6 blocks.
+static void by_scheme_u(const Part wrapping[2], const Part in[2], int enciphers, Part out[2])
+{
+    DES_key_schedule first, second, third;
+    schedule_of(wrapping[0], 0, &first);
+    schedule_of(wrapping[1], FIRST_VARIANT, &second);
+    schedule_of(wrapping[1], SECOND_VARIANT, &third);
+    triple(in[0], &first, &second, enciphers, out[0]);
+    triple(in[1], &first, &third, enciphers, out[1]);
+}
+
+// Opens the first parts of a text under the unchanged wrapping key: 2 schedules, and 3 blocks a part.
+static void open_plain(const Part wrapping[2], const Part *in, int parts, Part *out)
+{
+    DES_key_schedule first, second;
+    schedule_of(wrapping[0], 0, &first);
+    schedule_of(wrapping[1], 0, &second);
+    for (int i = 0; i < parts; i++)
+        triple(in[i], &first, &second, 0, out[i]);
+}
+
+// The zero block under a key of two parts: 2 schedules and 3 blocks.
+static void check_two(const Part key[2], Part out)
+{
+    DES_key_schedule first, second;
+    const Part zero = {0};
+    schedule_of(key[0], 0, &first);
+    schedule_of(key[1], 0, &second);
+    triple(zero, &first, &second, 1, out);
+}
+
+// The zero block under a single part: 1 schedule and 1 block.
+static void check_one(const Part key, Part out)
+{
+    DES_key_schedule schedule;
+    DES_LONG words[2] = {0, 0};
+    schedule_of(key, 0, &schedule);
+    DES_encrypt1(words, &schedule, DES_ENCRYPT);
+    bytes_of(words, out);
+}
+
+static void print_bytes(const unsigned char *bytes, int count)
+{
+    for (int i = 0; i < count; i++)
+        printf("%02X", bytes[i]);
+}
+
+int main(int count, char **arguments)
+{
+    const long turns = count == 2 ? strtol(arguments[1], NULL, 10) : 0;
+    Part pair_of_zmk[2], pair_of_zpk[2], pair_of_tmk[2];
+    memset(pair_of_zmk[0], 0x25, 8), memset(pair_of_zmk[1], 0x64, 8);
+    memset(pair_of_zpk[0], 0x26, 8), memset(pair_of_zpk[1], 0x67, 8);
+    memset(pair_of_tmk[0], 0x2F, 8), memset(pair_of_tmk[1], 0x6E, 8);
+    Part drawn[2] = {{1}, {2}}, sealed[2], zmk[2], key[2], single[1], imported[2];
+    Part drawn_value, imported_value, single_value, double_value;
+    for (long turn = 0; turn < turns; turn++) {
+        by_scheme_u(pair_of_zpk, drawn, 1, sealed);
+        check_two(drawn, drawn_value);
+        memcpy(drawn[0], sealed[0], 8);
+        for (int i = 0; i < 8; i++)
+            drawn[1][i] = sealed[1][i] ^ drawn_value[i];
+
+        by_scheme_u(pair_of_zmk, zmk_text, 0, zmk);
+        open_plain(zmk, given_text, 2, key);
+        by_scheme_u(pair_of_zpk, key, 1, imported);
+        check_two(key, imported_value);
+
+        open_plain(pair_of_zpk, &single_text, 1, single);
+        check_one(single[0], single_value);
+
+        by_scheme_u(pair_of_tmk, double_text, 0, key);
+        check_two(key, double_value);
+    }
+    if (turns < 1)
+        return 1;
+    printf("A700U");
+    print_bytes(imported[0], 16);
+    print_bytes(imported_value, 3);
+    printf("\nBV00");
+    print_bytes(single_value, 3);
+    printf("\nBV00");
+    print_bytes(double_value, 3);
+    printf("\n");
+    // A use of what A0's part came to, so that no compiler leaves it out.
+    return drawn[0][0] == sealed[0][0] ? 0 : 1;
+}

@@ -1,0 +1,3 @@
+pub mod Lengths
+pub mod AnswerSteps
+pub mod Repeats

@@ -1,0 +1,135 @@
+-- The order of checks of a message whose fields read.
+use Rattle.std.specs.Prelude.{ℕ, Bool, true, false, not, ◌&&◌, ◌||◌, nat_lt, if◌then◌else◌, List, [], ◌∷◌, ◌++◌, length, map, Option, Some, None}
+use Rattle.std.specs.List.{list_any}
+use Rattle.std.specs.Str.{bytes_eq}
+use Rattle.hsm_types.specs.declared.types.KeyType.{KeyType}
+use Rattle.hsm_types.specs.declared.types.Act.{Act}
+use Rattle.hsm_types.specs.declared.types.Act.TheVariants.{Generate, Import, Export}
+use Rattle.hsm_types.specs.declared.types.Permit.{Permit}
+use Rattle.hsm_types.specs.declared.types.Permit.TheVariants as permit
+use Rattle.hsm_types.specs.Table.{permit_of}
+use Rattle.hsm_verify.specs.Values.{table_ok}
+use Rattle.hsm_auth.specs.declared.activity.Category.{Category}
+use Rattle.hsm_auth.specs.declared.activity.Category.TheVariants as category
+use Rattle.hsm_auth.specs.declared.activity.Place.TheVariants as place
+use Rattle.hsm_auth.specs.declared.activity.Activity.{Activity}
+use Rattle.hsm_auth.specs.declared.entry.Granted.{Granted}
+use Rattle.hsm_auth.specs.declared.entry.Granted.TheVariants as granted
+use Rattle.hsm_rows.specs.declared.settings.Module.{Module}
+use Rattle.hsm_rows.specs.declared.row.Secret.{Secret}
+use Rattle.hsm_nibbles.specs.Characters.{digit_value}
+use Rattle.hsm_rows.specs.Reading.{ReadText}
+use Rattle.hsm_rows.specs.Rules.{RowRules, TypeSource, ActUse, FixedNeed, DataCheck, table_check, pin_check, longer_than, shorter_than, mac_check}
+use Rattle.hsm_answers.specs.Keys.{field_text, is_absent, type_of, keys_fault, first_code}
+use Rattle.hsm_answers.specs.Pins.{digits_at, number_at, given_pin, pin_fault}
+use Rattle.hsm_answers.specs.Macs.{mac_fault}
+use Rattle.hsm_answers.specs.Values.{secret_key, row_value}
+
+-- the permit asks for an activity
+abbrev pub is_needed : Permit → Bool
+is_needed permit.Y = false
+is_needed permit.A = true
+is_needed permit.N = false
+
+-- the permit forbids the act
+abbrev pub is_forbidden : Permit → Bool
+is_forbidden permit.Y = false
+is_forbidden permit.A = false
+is_forbidden permit.N = true
+
+-- whether the row uses the act: always, or where the field is present
+abbrev pub is_used : ReadText → Option ℕ → Bool
+is_used r None = true
+is_used r (Some k) = not (is_absent r k)
+
+-- the permit of an act on the type that the row names
+abbrev pub act_permit : Module → ReadText → ActUse → Permit
+act_permit m r a = permit_of m.permits (type_of r a.ty) a.act
+
+-- check 5: 29 where a permit that the row uses is N
+unfoldable pub permit_fault : Module → RowRules → ReadText → Option ℕ
+permit_fault m rules r = if list_any (λ (a : ActUse). is_used r a.where_present && is_forbidden (act_permit m r a)) rules.acts then Some 29 else None
+
+-- whether a part equals the part before it
+abbrev pub repeats_part : List (List ℕ) → Bool
+repeats_part [] = false
+repeats_part (a ∷ []) = false
+repeats_part (a ∷ b ∷ more) = bytes_eq a b || repeats_part (b ∷ more)
+
+-- check 6: 75 where a part of the key equals the part before it; none of these keys is drawn
+unfoldable pub parts_fault : Module → RowRules → ReadText → Option Secret → Option ℕ
+parts_fault m rules r None = None
+parts_fault m rules r (Some s) = if repeats_part (secret_key m rules r 0 s) then Some 75 else None
+
+-- the checks after the fields and before the entry
+unfoldable pub check_before : Module → RowRules → ReadText → Option ℕ
+check_before m rules r = first_code (keys_fault m rules r rules.keys ∷ permit_fault m rules r ∷ parts_fault m rules r rules.parts_differ ∷ [])
+
+-- the category of an act
+abbrev pub category_of : Act → Category
+category_of Generate = category.Generate
+category_of Import = category.Import
+category_of Export = category.Export
+
+-- the activity of an act, at the host
+abbrev pub act_activity : ReadText → ActUse → Activity
+act_activity r a = record { category = category_of a.act; ty = Some (type_of r a.ty); place = Some place.Host }
+
+-- the needs of the acts whose permit is A
+abbrev pub act_needs : Module → ReadText → List ActUse → List Activity
+act_needs m r [] = []
+act_needs m r (a ∷ more) =
+    if is_used r a.where_present && is_needed (act_permit m r a) then act_activity r a ∷ act_needs m r more else act_needs m r more
+
+-- the type of a need, if it has one
+abbrev pub need_type : ReadText → Option TypeSource → Option KeyType
+need_type r None = None
+need_type r (Some ty) = Some (type_of r ty)
+
+-- the activity of a need
+abbrev pub fixed_need : ReadText → FixedNeed → Activity
+fixed_need r n = record { category = n.category; ty = need_type r n.ty; place = Some n.place }
+
+-- the activities that the message needs
+unfoldable pub needs_of : Module → RowRules → ReadText → List Activity
+needs_of m rules r = act_needs m r rules.acts ++ map (fixed_need r) rules.needs
+
+-- a need wasn't covered at the entry
+abbrev pub is_refused : Granted → Bool
+is_refused granted.Refused = true
+is_refused (granted.Use first) = false
+is_refused granted.Authorised = false
+is_refused granted.Full = false
+is_refused (granted.Cancelled count) = false
+is_refused (granted.Seen moment place grants) = false
+is_refused (granted.Recent notes) = false
+
+-- check 7: 17 where a need isn't covered at the entry
+abbrev pub entry_fault : Granted → Option ℕ
+entry_fault g = if is_refused g then Some 17 else None
+
+-- what a data check finds
+unfoldable pub data_fault : Module → RowRules → ReadText → DataCheck → Option ℕ
+data_fault m rules r (table_check k) = if table_ok (digits_at r k) then None else Some 25
+data_fault m rules r pin_check = pin_fault m rules r rules.pin
+data_fault m rules r (longer_than k) = if nat_lt (number_at r k) (length (given_pin m rules r)) then Some 24 else None
+data_fault m rules r (shorter_than k) = if nat_lt (length (given_pin m rules r)) (number_at r k) then Some 24 else None
+data_fault m rules r (mac_check f) = mac_fault r f
+
+-- check 8: the first data check, in the row's order, that finds something
+unfoldable pub checks_fault : Module → RowRules → ReadText → Option ℕ
+checks_fault m rules r = first_code (map (data_fault m rules r) rules.checks)
+
+-- check 9: 01 where the given value isn't the row's value; letters may be of either case
+unfoldable pub compared_fault : Module → RowRules → ReadText → Option ℕ → Option ℕ
+compared_fault m rules r None = None
+compared_fault m rules r (Some k) =
+    if is_absent r k || bytes_eq (map digit_value (field_text r k)) (map digit_value (row_value m rules r rules.value)) then None else Some 1
+
+-- the checks after the entry
+unfoldable pub check_after : Module → RowRules → ReadText → Option ℕ
+check_after m rules r = first_code (checks_fault m rules r ∷ compared_fault m rules r rules.compared ∷ [])
+
+-- the code of the first check that fails, of those after the fields
+unfoldable pub check_read : Module → RowRules → ReadText → Granted → Option ℕ
+check_read m rules r g = first_code (check_before m rules r ∷ entry_fault g ∷ check_after m rules r ∷ [])

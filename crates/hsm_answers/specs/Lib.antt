@@ -1,0 +1,11 @@
+pub mod Keys
+pub mod Draws
+pub mod Pins
+pub mod Macs
+pub mod Values
+pub mod Checks
+pub mod Asks
+pub mod Answers
+pub mod Messages
+pub mod Given
+pub mod Plans

@@ -1,0 +1,68 @@
+-- What a message's checks came to before its entry, and what it is answered after them.
+use Rattle.std.specs.Prelude.{◌≡◌, ℕ, List, [], ◌∷◌, ◌++◌, flat_map, Option, Some, None, Result, Ok, Err}
+use Rattle.std.specs.Option.{option_map}
+use Rattle.hsm_auth.specs.declared.entry.Granted.{Granted}
+use Rattle.hsm_rows.specs.declared.settings.Module.{Module}
+use Rattle.hsm_rows.specs.declared.row.Code.{Code}
+use Rattle.hsm_rows.specs.Table.{RowShape}
+use Rattle.hsm_rows.specs.Rules.{RowRules, rules_of}
+use Rattle.hsm_rows.specs.Texts.{two_digits}
+use Rattle.hsm_rows.specs.Reading.{ReadText}
+use Rattle.hsm_answers.specs.declared.plans.Checked.{Checked}
+use Rattle.hsm_answers.specs.declared.plans.Checked.TheVariants.{Unread, Failed, Passed}
+use Rattle.hsm_answers.specs.Keys.{first_code}
+use Rattle.hsm_answers.specs.Values.{values}
+use Rattle.hsm_answers.specs.Checks.{check_before, check_after, entry_fault}
+
+-- the number of a code
+abbrev pub number_of : Code → ℕ
+number_of code = code.0
+
+-- the checks before the entry fail
+pub record HasFailed (m : Module) (row : RowShape) (r : ReadText) (code : ℕ) (trailer : List ℕ) : Type 0 where
+  pub fault : check_before m (rules_of row) r ≡ Some code
+  pub rest : r.trailer ≡ trailer
+
+-- the checks before the entry hold, and `late` is what those after it find
+pub record HasPassed (m : Module) (row : RowShape) (r : ReadText) (late : Option ℕ) (trailer : List ℕ) : Type 0 where
+  pub before : check_before m (rules_of row) r ≡ None
+  pub after : check_after m (rules_of row) r ≡ late
+  pub rest : r.trailer ≡ trailer
+
+-- the checks of what was read came to this, and this is the trailer that is repeated
+abbrev pub IsChecked : Module → RowShape → Result ReadText Code → Checked → List ℕ → Type 0
+IsChecked m row (Err code) (Unread unread) trailer = (code ≡ unread) × (trailer ≡ [])
+IsChecked m row (Err code) (Failed failed) trailer = ⊥
+IsChecked m row (Err code) (Passed late) trailer = ⊥
+IsChecked m row (Ok r) (Unread unread) trailer = ⊥
+IsChecked m row (Ok r) (Failed failed) trailer = HasFailed m row r failed.0 trailer
+IsChecked m row (Ok r) (Passed late) trailer = HasPassed m row r (option_map number_of late) trailer
+
+-- the code of the refusal at the entry, if there is one
+abbrev pub fault_at : Checked → Granted → Option ℕ
+fault_at (Unread code) g = Some code.0
+fault_at (Failed code) g = Some code.0
+fault_at (Passed late) g = first_code (entry_fault g ∷ option_map number_of late ∷ [])
+
+-- the error code, 00 where there is no refusal
+abbrev pub code_text : Option ℕ → List ℕ
+code_text None = two_digits 0
+code_text (Some code) = two_digits code
+
+-- the reply fields, which follow the error code 00 alone
+abbrev pub fields_after : Option ℕ → List ℕ → List ℕ
+fields_after None fields = fields
+fields_after (Some code) fields = []
+
+-- the answer of a host row after these checks, with these reply fields and this trailer
+abbrev pub host_text : RowShape → Checked → Granted → List ℕ → List ℕ → List ℕ
+host_text row checked g fields trailer = row.reply ++ (code_text (fault_at checked g) ++ (fields_after (fault_at checked g) fields ++ trailer))
+
+-- the values of the reply fields one after another
+abbrev pub fields_text : Module → RowRules → RowShape → Granted → ReadText → List ℕ
+fields_text m rules row g r = flat_map (λ field. field) (values m rules r g row.terms)
+
+-- these are the reply fields, where what was read is answered 00
+abbrev pub AreFields : Module → RowShape → Result ReadText Code → Checked → Granted → List ℕ → Type 0
+AreFields m row (Err code) checked g fields = Unit {0}
+AreFields m row (Ok r) checked g fields = fault_at checked g ≡ None → fields_text m (rules_of row) row g r ≡ fields

@@ -1,0 +1,259 @@
+-- Keys, PINs and reply fields of a message.
+use Rattle.std.specs.Prelude.{ℕ, zero, suc, ◌-◌, ◌*◌, Bool, true, false, ◌||◌, ◌==◌, if◌then◌else◌, List, [], ◌∷◌, ◌++◌, length, take, drop, map, flat_map, replicate, bit_xor, codes}
+use Rattle.std.specs.Fmt.{decimal}
+use Rattle.hsm_types.specs.declared.types.Scheme.{Scheme}
+use Rattle.hsm_types.specs.Schemes.{scheme_parts}
+use Rattle.hsm_parity.specs.Parity.{adjusted}
+use Rattle.hsm_tdes.specs.Tdes.{enciphered, check_value, key_bytes}
+use Rattle.hsm_nibbles.specs.Nibbles.{block_of}
+use Rattle.hsm_nibbles.specs.Characters.{hex_character, digit_value, bytes_of_hex, hex_of_bytes}
+use Rattle.hsm_lmk.specs.Sealing.{wrap, lmk_check}
+use Rattle.hsm_pinblock.specs.Blocks.{block_of_pin, sealed_pin}
+use Rattle.hsm_verify.specs.Values.{pvv, natural_pin, offset, cvv}
+use Rattle.hsm_auth.specs.declared.entry.Grant.{Grant}
+use Rattle.hsm_auth.specs.declared.entry.Note.{Note}
+use Rattle.hsm_auth.specs.declared.entry.Kind.{Kind}
+use Rattle.hsm_auth.specs.declared.entry.Kind.TheVariants as kind
+use Rattle.hsm_auth.specs.declared.entry.Granted.{Granted}
+use Rattle.hsm_auth.specs.declared.entry.Granted.TheVariants as granted
+use Rattle.hsm_auth.specs.Activities.{text_of}
+use Rattle.hsm_rows.specs.declared.settings.Module.{Module}
+use Rattle.hsm_rows.specs.declared.row.Secret.{Secret}
+use Rattle.hsm_rows.specs.declared.row.Secret.TheVariants.{Opened, OpenedUnder, DrawnKey, Joined, PinOf, DrawnPin, GivenPin}
+use Rattle.hsm_rows.specs.declared.row.Public.{Public}
+use Rattle.hsm_rows.specs.declared.row.Public.TheVariants.{Given, Fixed, Sealed, SealedUnder, CheckValue, SealedPin, BlockUnder, PinLength, Pvv, Offset, Cvv, Mac, Chain, LmkCheck, LiveGrants, Hosts, Done, Cancelled, Grants, Numbers, Notes, Show}
+use Rattle.hsm_rows.specs.Table.{Term, plain_text, term}
+use Rattle.hsm_rows.specs.Texts.{two_digits}
+use Rattle.hsm_rows.specs.Reading.{ReadText}
+use Rattle.hsm_rows.specs.Rules.{RowRules, ValueSource, Words, no_words, two_per_part, as_length, fill_of, no_value, pvv_of, offset_of, cvv_of, mac_of}
+use Rattle.hsm_answers.specs.Keys.{field_text, is_absent, set_of, scheme_at, type_of, lmk_key, wrapped_key, key_text}
+use Rattle.hsm_answers.specs.Draws.{drawn_key, drawn_fill}
+use Rattle.hsm_answers.specs.Pins.{digits_at, block_text, number_at, format_at, pin_of, given_pin, pin_account, fill_length}
+use Rattle.hsm_answers.specs.Macs.{ends_message, mac_text, chain_text}
+
+-- the place of the first random word of a granted use
+abbrev pub first_of : Granted → ℕ
+first_of (granted.Use first) = first
+first_of granted.Refused = 0
+first_of granted.Authorised = 0
+first_of granted.Full = 0
+first_of (granted.Cancelled count) = 0
+first_of (granted.Seen moment place grants) = 0
+first_of (granted.Recent notes) = 0
+
+-- exclusive-or byte by byte; an absent one changes nothing
+abbrev pub xor_bytes : List ℕ → List ℕ → List ℕ
+xor_bytes xs [] = xs
+xor_bytes [] ys = ys
+xor_bytes (x ∷ xs) (y ∷ ys) = bit_xor x y ∷ xor_bytes xs ys
+
+-- the exclusive-or of the components
+abbrev pub joined_bytes : ReadText → List ℕ → List ℕ
+joined_bytes r [] = []
+joined_bytes r (k ∷ ks) = xor_bytes (bytes_of_hex (field_text r k)) (joined_bytes r ks)
+
+-- the parts of a key of 8, 16 or 24 bytes
+abbrev pub parts_of_bytes : ℕ → List ℕ → List (List ℕ)
+parts_of_bytes zero bytes = []
+parts_of_bytes (suc n) bytes = take 8 bytes ∷ parts_of_bytes n (drop 8 bytes)
+
+-- the scheme of the key that the row makes
+abbrev pub made_scheme : RowRules → ReadText → Scheme
+made_scheme rules r = scheme_at r rules.made.scheme
+
+-- the number of parts of the key that the row makes
+abbrev pub made_parts : RowRules → ReadText → ℕ
+made_parts rules r = scheme_parts (made_scheme rules r)
+
+-- the key of the components: their exclusive-or, adjusted to odd parity
+unfoldable pub joined_key : RowRules → ReadText → List (List ℕ)
+joined_key rules r = parts_of_bytes (made_parts rules r) (adjusted (joined_bytes r rules.made.components))
+
+-- the key that a secret is; a drawn one has its words from the place on
+unfoldable pub secret_key : Module → RowRules → ReadText → ℕ → Secret → List (List ℕ)
+secret_key m rules r place (Opened k) = lmk_key m rules r k
+secret_key m rules r place (OpenedUnder k kek) = wrapped_key m rules r k kek
+secret_key m rules r place DrawnKey = drawn_key m place (made_parts rules r)
+secret_key m rules r place Joined = joined_key rules r
+secret_key m rules r place (PinOf k) = []
+secret_key m rules r place DrawnPin = []
+secret_key m rules r place (GivenPin k) = []
+
+-- digits with F to 12 characters
+abbrev pub filled_to_twelve : List ℕ → List ℕ
+filled_to_twelve digits = map hex_character (digits ++ replicate (12 - length digits) 15)
+
+-- a secret in the clear: a key in hexadecimal, a PIN with F to 12 characters
+unfoldable pub shown : Module → RowRules → ReadText → ℕ → Secret → List ℕ
+shown m rules r place (Opened k) = hex_of_bytes (key_bytes (lmk_key m rules r k))
+shown m rules r place (OpenedUnder k kek) = hex_of_bytes (key_bytes (wrapped_key m rules r k kek))
+shown m rules r place DrawnKey = hex_of_bytes (key_bytes (drawn_key m place (made_parts rules r)))
+shown m rules r place Joined = hex_of_bytes (key_bytes (joined_key rules r))
+shown m rules r place (PinOf k) = filled_to_twelve (pin_of m rules r place)
+shown m rules r place DrawnPin = filled_to_twelve (pin_of m rules r place)
+shown m rules r place (GivenPin k) = filled_to_twelve (pin_of m rules r place)
+
+-- a character of the validation data: the last 5 account digits stand for N
+abbrev pub validation_digit : List ℕ → ℕ → List ℕ
+validation_digit account c = if c == 78 then drop 7 account else digit_value c ∷ []
+
+-- the block of the validation data
+abbrev pub validation_block : List ℕ → List ℕ → ℕ
+validation_block text account = block_of (flat_map (validation_digit account) text)
+
+-- the account number, which ends with a semicolon
+abbrev pub pan_digits : ReadText → ℕ → List ℕ
+pan_digits r k = map digit_value (take (length (field_text r k) - 1) (field_text r k))
+
+-- the first key of a pair
+abbrev pub first_part : List (List ℕ) → List (List ℕ)
+first_part key = take 1 key
+
+-- the second key of a pair
+abbrev pub second_part : List (List ℕ) → List (List ℕ)
+second_part key = drop 1 key
+
+-- the index, one digit
+abbrev pub index_at : ReadText → ℕ → ℕ
+index_at r k = block_of (digits_at r k)
+
+-- the row's value of its PIN or data, as it is written
+unfoldable pub row_value : Module → RowRules → ReadText → ValueSource → List ℕ
+row_value m rules r no_value = []
+row_value m rules r (pvv_of pair index) =
+    map hex_character (pvv (first_part (lmk_key m rules r pair)) (second_part (lmk_key m rules r pair)) (pin_account r rules.pin) (index_at r index) (given_pin m rules r))
+row_value m rules r (offset_of pvk table validation check) =
+    map hex_character (offset (natural_pin (lmk_key m rules r pvk) (digits_at r table) (validation_block (field_text r validation) (pin_account r rules.pin))) (given_pin m rules r) (number_at r check))
+row_value m rules r (cvv_of pair pan expiry service) =
+    map hex_character (cvv (first_part (lmk_key m rules r pair)) (second_part (lmk_key m rules r pair)) (pan_digits r pan) (digits_at r expiry) (digits_at r service))
+row_value m rules r (mac_of f) = if ends_message r f then mac_text m rules r f else []
+
+-- the chaining value, in modes 1 and 2
+unfoldable pub chain_value : Module → RowRules → ReadText → ValueSource → List ℕ
+chain_value m rules r (mac_of f) = if ends_message r f then [] else chain_text m rules r f
+chain_value m rules r no_value = []
+chain_value m rules r (pvv_of pair index) = []
+chain_value m rules r (offset_of pvk table validation check) = []
+chain_value m rules r (cvv_of pair pan expiry service) = []
+
+-- the random words of a message whose checks all pass
+unfoldable pub word_count : Module → RowRules → ReadText → Words → ℕ
+word_count m rules r no_words = 0
+word_count m rules r (two_per_part k) = 2 * scheme_parts (scheme_at r k)
+word_count m rules r (as_length k) = number_at r k
+word_count m rules r (fill_of k) = fill_length (format_at r k) (given_pin m rules r)
+
+-- the block of the PIN in the second format, its fill drawn from the place on
+abbrev pub translated_block : Module → RowRules → ReadText → ℕ → Words → ℕ
+translated_block m rules r place (fill_of k) =
+    block_of_pin (format_at r k) (given_pin m rules r) (pin_account r rules.pin) (drawn_fill m (format_at r k) place (fill_length (format_at r k) (given_pin m rules r)))
+translated_block m rules r place no_words = 0
+translated_block m rules r place (two_per_part k) = 0
+translated_block m rules r place (as_length k) = 0
+
+-- the letter of a note's kind
+abbrev pub kind_letter : Kind → List ℕ
+kind_letter kind.Use = codes "U"
+kind_letter kind.Authorise = codes "A"
+kind_letter kind.Cancel = codes "C"
+kind_letter kind.CancelAll = codes "X"
+kind_letter kind.Look = codes "L"
+kind_letter kind.Recent = codes "R"
+
+-- `+` for a good answer
+abbrev pub verdict : Bool → List ℕ
+verdict true = codes "+"
+verdict false = codes "-"
+
+-- `activity=end`
+abbrev pub grant_text : Grant → List ℕ
+grant_text g = text_of g.activity ++ (codes "=" ++ decimal g.end)
+
+-- `number:moment:kind:verdict`
+abbrev pub note_text : Note → List ℕ
+note_text n = decimal n.number ++ (codes ":" ++ (decimal n.moment ++ (codes ":" ++ (kind_letter n.kind ++ (codes ":" ++ verdict n.good)))))
+
+-- texts with one space before each
+abbrev pub spaced : List (List ℕ) → List ℕ
+spaced [] = []
+spaced (t ∷ ts) = codes " " ++ (t ++ spaced ts)
+
+-- the number of texts, then the texts, each after one space
+abbrev pub counted : List (List ℕ) → List ℕ
+counted ts = decimal (length ts) ++ spaced ts
+
+-- the live grants that were seen
+abbrev pub live_of : Granted → List Grant
+live_of (granted.Seen moment place grants) = grants.items
+live_of (granted.Use first) = []
+live_of granted.Refused = []
+live_of granted.Authorised = []
+live_of granted.Full = []
+live_of (granted.Cancelled count) = []
+live_of (granted.Recent notes) = []
+
+-- the notes that were seen
+abbrev pub notes_of : Granted → List Note
+notes_of (granted.Recent notes) = notes.items
+notes_of (granted.Use first) = []
+notes_of granted.Refused = []
+notes_of granted.Authorised = []
+notes_of granted.Full = []
+notes_of (granted.Cancelled count) = []
+notes_of (granted.Seen moment place grants) = []
+
+-- the number of grants that were cancelled
+abbrev pub cancelled_of : Granted → ℕ
+cancelled_of (granted.Cancelled count) = count
+cancelled_of (granted.Use first) = 0
+cancelled_of granted.Refused = 0
+cancelled_of granted.Authorised = 0
+cancelled_of granted.Full = 0
+cancelled_of (granted.Seen moment place grants) = 0
+cancelled_of (granted.Recent notes) = 0
+
+-- moment, random place and the number of live grants
+abbrev pub numbers_text : Granted → List ℕ
+numbers_text (granted.Seen moment place grants) = decimal moment ++ (codes " " ++ (decimal place ++ (codes " " ++ decimal (length grants.items))))
+numbers_text (granted.Use first) = []
+numbers_text granted.Refused = []
+numbers_text granted.Authorised = []
+numbers_text granted.Full = []
+numbers_text (granted.Cancelled count) = []
+numbers_text (granted.Recent notes) = []
+
+-- the value of a reply term, for the answer at the entry
+unfoldable pub value_of : Module → RowRules → ReadText → Granted → Public → List ℕ
+value_of m rules r g (Given k) = field_text r k
+value_of m rules r g (Fixed text) = text.now
+value_of m rules r g (Sealed s) = key_text (wrap (set_of m r) (type_of r rules.made.ty)) (made_scheme rules r) (secret_key m rules r (first_of g) s)
+value_of m rules r g (SealedUnder s kek) =
+    if is_absent r kek || is_absent r rules.made.wrap_scheme then []
+    else key_text (lmk_key m rules r kek) (scheme_at r rules.made.wrap_scheme) (secret_key m rules r (first_of g) s)
+value_of m rules r g (CheckValue s) = check_value (secret_key m rules r (first_of g) s)
+value_of m rules r g (SealedPin s) = block_text (sealed_pin (set_of m r) (pin_of m rules r (first_of g)) (pin_account r rules.pin))
+value_of m rules r g (BlockUnder pin key) = block_text (enciphered (lmk_key m rules r key) (translated_block m rules r (first_of g) rules.words))
+value_of m rules r g (PinLength s) = two_digits (length (pin_of m rules r (first_of g)))
+value_of m rules r g Pvv = row_value m rules r rules.value
+value_of m rules r g Offset = row_value m rules r rules.value
+value_of m rules r g Cvv = row_value m rules r rules.value
+value_of m rules r g Mac = row_value m rules r rules.value
+value_of m rules r g Chain = chain_value m rules r rules.value
+value_of m rules r g LmkCheck = block_text (lmk_check (set_of m r))
+value_of m rules r g LiveGrants = two_digits (length (live_of g))
+value_of m rules r g Hosts = two_digits m.hosts
+value_of m rules r g Done = []
+value_of m rules r g Cancelled = decimal (cancelled_of g)
+value_of m rules r g Grants = counted (map grant_text (live_of g))
+value_of m rules r g Numbers = numbers_text g
+value_of m rules r g Notes = counted (map note_text (notes_of g))
+value_of m rules r g (Show s) = shown m rules r (first_of g) s
+
+-- the value of a reply field
+abbrev pub value : Module → RowRules → ReadText → Granted → Term → List ℕ
+value m rules r g (plain_text t) = t
+value m rules r g (term t) = value_of m rules r g t
+
+-- the values of the reply fields
+abbrev pub values : Module → RowRules → ReadText → Granted → List Term → List (List ℕ)
+values m rules r g ts = map (value m rules r g) ts

@@ -1,0 +1,21 @@
+//! What each command of the table asks and answers: the definitions, and the code that the command crates share.
+#![tactic(auto)]
+
+mod draws;
+mod keys;
+pub mod laws;
+mod needs;
+mod plans;
+mod texts;
+
+pub use draws::{draw_key, word};
+pub use keys::{
+    Asked, check_lmk_key, check_wrapped_key, check_wrapping_key, flag_parts, repeats_part,
+    scheme_named, type_by_pair, type_of_code, wrapper_type,
+};
+pub use needs::{host_activity, need_by};
+pub use plans::{Checked, first_of, put_code};
+pub use texts::put_key;
+
+#[cfg(test)]
+mod tests;

@@ -1,0 +1,5 @@
+pub mod Needs
+pub mod Fields
+pub mod Rows
+pub mod Commands
+pub mod Plans

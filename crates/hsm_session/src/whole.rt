@@ -1,0 +1,40 @@
+//! The answer of a message in one call.
+
+ghost use Rattle.std.specs.Prelude.{◌≡◌, ◌≤◌, length};
+ghost use Rattle.hsm_auth.specs.History.{Fits};
+ghost use Rattle.hsm_answers.specs.Messages.{message_answer, message_ask};
+ghost use Rattle.hsm_session.specs.Plans.{IsBuilt, least_length, side_of};
+
+use crate::plans::{Kind, finish, prepare};
+use hsm_auth::Granted;
+use hsm_rows::Module;
+use hsm_text::Reply;
+
+/// Replaces the reply by the whole answer of a host's message at an entry that gives this answer to its ask.
+pub fn answer(module: &Module, kind: Kind, message: &[u8], granted: &Granted, reply: &mut Reply)
+    requires kind { kind ≡ Kind.Host }
+    requires built { IsBuilt «module».now }
+    requires least { least_length «module».now ≤ length message.now }
+    requires fits { Fits (message_ask «module».now (side_of kind) message.now) granted.now }
+    ensures { reply.new ≡ message_answer «module».now (side_of kind) message.now granted.now }
+{
+    answer_by::<0>(module, kind, message, granted, reply);
+}
+
+// A constant parameter that nothing reads: the toolchain has no plan for a value that holds a type with a lifetime in a function without parameters.
+fn answer_by<const N: usize>(
+    module: &Module,
+    kind: Kind,
+    message: &[u8],
+    granted: &Granted,
+    reply: &mut Reply,
+)
+    requires kind { kind ≡ Kind.Host }
+    requires built { IsBuilt «module».now }
+    requires least { least_length «module».now ≤ length message.now }
+    requires fits { Fits (message_ask «module».now (side_of kind) message.now) granted.now }
+    ensures { reply.new ≡ message_answer «module».now (side_of kind) message.now granted.now }
+{
+    let plan = prepare(module, kind, message);
+    finish(module, &plan, granted, reply);
+}
