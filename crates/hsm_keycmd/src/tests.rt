@@ -1,5 +1,5 @@
-//! Messages of the key commands with their answers. Sealed texts, drawn keys and check values are those of
-//! bench/key_rows.py, which calls OpenSSL.
+//! Messages of the key commands under a grant, which no script reaches yet. Sealed texts, drawn keys and check values
+//! are those of bench/key_rows.py, which calls OpenSSL. Messages without a grant are tested in hsm_acceptance.
 ghost use Rattle.std.specs.Prelude.{List};
 ghost use Rattle.hsm_auth.specs.History.{CanAsk, Fits, StandsFor};
 ghost use Rattle.hsm_auth.specs.declared.entry.Entry.{Entry};
@@ -61,116 +61,6 @@ fn is_answered(
         finish(module, &plan, &granted, &mut reply);
     }
     reply.bytes() == expected
-}
-
-// Nothing is granted, and refused messages draw no words.
-#[test]
-fn without_grants(rt: HostRuntime) -> Result<(), Fail> {
-    let module = counted_module().ok_or("parity")?;
-    let mut ledger = Ledger::new(rt.alloc())?;
-    assert!(rt; is_answered(&module, &mut ledger, b"A0", b"0000Z", b"A127"));
-    assert!(rt; is_answered(&module, &mut ledger, b"A0", b"0000U", b"A117"));
-    assert!(rt;
-        is_answered(
-            &module,
-            &mut ledger,
-            b"A0",
-            b"1009U;0U9F9A79DCD106B37584C5D3D3C418F4AEX",
-            b"A129"
-        )
-    );
-    assert!(rt;
-        is_answered(
-            &module,
-            &mut ledger,
-            b"A0",
-            b"0001U",
-            b"A100UB7956F3DE6B601377C257E72C2190372EEE2CE"
-        )
-    );
-    assert!(rt;
-        is_answered(
-            &module,
-            &mut ledger,
-            b"A0",
-            b"0001U",
-            b"A100UC0E7760C77FB6991CA80F24C3702F70E9786A4"
-        )
-    );
-    assert!(rt;
-        is_answered(
-            &module,
-            &mut ledger,
-            b"A6",
-            b"001U9F9A79DCD106B37584C5D3D3C418F4AEX1A4D672DCA6CB3351A4D672DCA6CB335U",
-            b"A775"
-        )
-    );
-    assert!(rt;
-        is_answered(
-            &module,
-            &mut ledger,
-            b"A6",
-            b"001U9F9A79DCD106B37584C5D3D3C418F4AEX1A4D672DCA6CB3351FD1B02B237AF9AEU",
-            b"A700U71D85977C347EBFADA6E35FE76C6A28108D7B4"
-        )
-    );
-    assert!(rt;
-        is_answered(
-            &module,
-            &mut ledger,
-            b"A8",
-            b"402U9F9A79DCD106B37584C5D3D3C418F4AEU93433818F0FC142D7DDA7B0CFFEF28D2X",
-            b"A917"
-        )
-    );
-    assert!(rt;
-        is_answered(
-            &module,
-            &mut ledger,
-            b"A8",
-            b"009U9F9A79DCD106B37584C5D3D3C418F4AEU1087F3A82F1813AFCDD58B4B1A6AE44DX",
-            b"A929"
-        )
-    );
-    assert!(rt;
-        is_answered(
-            &module,
-            &mut ledger,
-            b"BU",
-            b"FF1U93433818F0FC142D7DDA7B0CFFEF28D2;402",
-            b"BV0008D7B4"
-        )
-    );
-    assert!(rt;
-        is_answered(
-            &module,
-            &mut ledger,
-            b"BU",
-            b"FF1U93433818F0FC142D7DDA7B0CFFEF28D2;402\x19 a trailer",
-            b"BV0008D7B4\x19 a trailer"
-        )
-    );
-    assert!(rt;
-        is_answered(
-            &module,
-            &mut ledger,
-            b"BU",
-            b"010U71D85977C347EBFADA6E35FE76C6A281\x19 a trailer",
-            b"BV27\x19 a trailer"
-        )
-    );
-    assert!(rt;
-        is_answered(
-            &module,
-            &mut ledger,
-            b"BU",
-            b"010U71D85977C347EBFADA6E35FE76C6A281\x19 a trailer of 33 bytes after 0x19",
-            b"BV15"
-        )
-    );
-    assert!(rt; is_answered(&module, &mut ledger, b"BU", b"01", b"BV05"));
-    Ok(())
 }
 
 // Exporting a CVK is allowed, and the first key is sealed under a ZMK too.
