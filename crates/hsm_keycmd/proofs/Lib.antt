@@ -3,4 +3,3 @@ pub mod NeedSteps
 pub mod FieldSteps
 pub mod CheckSteps
 pub mod CommandSteps
-pub mod PlanSteps
