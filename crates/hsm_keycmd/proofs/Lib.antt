@@ -1,4 +1,3 @@
-pub mod KeyRows
 pub mod NeedSteps
 pub mod FieldSteps
 pub mod CheckSteps

@@ -1,4 +1,4 @@
-use Rattle.std.proofs.Common.{sym, ◌∙◌, ap₂, ℕ, List, Some, None, subst}
+use Rattle.std.proofs.Common.{sym, ◌∙◌, ap, ap₂, ℕ, List, Some, None, subst}
 use Rattle.std.specs.Prelude.{[]}
 use Rattle.hsm_auth.specs.declared.entry.Ask.{Ask}
 use Rattle.hsm_auth.specs.declared.entry.Ask.TheVariants as ask
@@ -8,12 +8,13 @@ use Rattle.hsm_rows.specs.Reading.{read_text_of}
 use Rattle.hsm_answers.specs.declared.plans.Checked.TheVariants.{Unread, Failed}
 use Rattle.hsm_answers.specs.Plans.{IsPlanned}
 use Rattle.hsm_answers.specs.Values.{first_of}
+use Rattle.hsm_keycmd.specs.Commands.{row_by}
 use Rattle.hsm_keycmd.specs.Fields.{made_text}
-use Rattle.hsm_keycmd.proofs.CommandSteps.{few_fields, before_is, after_is, ask_is, text_is}
+use Rattle.hsm_keycmd.proofs.CommandSteps.{few_fields, before_is, after_is, ask_is, text_is, row_is}
 use Rattle.hsm_keycmd.proofs.plan.prepare.Goals as goal
 
 pub read_fields-requires : goal.read_fields-requires
-read_fields-requires c = record { few = few_fields c.args.row.now c.command_of-command.result c.command_of-command.ensures }
+read_fields-requires c = record { few = few_fields c.args.row.now c.command_of-command.result (row_is (shape_of c.args.row.now) c.requires ∙ ap row_by (sym c.command_of-command.ensures)) }
 
 pub returns-in-Err-clause-plan : goal.returns-in-Err-clause-plan
 returns-in-Err-clause-plan c =
@@ -46,7 +47,7 @@ returns-in-Err-check-clause-plan c =
       planned =
           subst P (sym c.empty_ask-in-Err-check.ensures)
           (c.planned.ensures.failed m row text r code fields c.in-Ok.ensures.reading
-          (before_is m row c.command_of-command.result c.command_of-command.ensures r (Some code.0) c.in-Err-check.ensures.fault) c.in-Ok.ensures.short);
+          (before_is m row c.command_of-command.result (row_is row c.requires ∙ ap row_by (sym c.command_of-command.ensures)) r (Some code.0) c.in-Err-check.ensures.fault) c.in-Ok.ensures.short);
       sound = c.no_fields-in-Err-check.ensures;
     }
 
@@ -59,7 +60,7 @@ returns-in-Ok-check-clause-plan c =
     let row = shape_of c.args.row.now in
     let text = c.args.text.now in
     let command = c.command_of-command.result in
-    let same = c.command_of-command.ensures in
+    let same = row_is row c.requires ∙ ap row_by (sym c.command_of-command.ensures) in
     let r = read_text_of c.in-Ok.fields in
     let passed = c.in-Ok-check.passed in
     let checks = c.in-Ok-check.ensures in
