@@ -9,7 +9,7 @@ mod needs;
 mod plans;
 mod texts;
 
-pub use draws::{draw_key, word};
+pub use draws::{draw_fill, draw_key, draw_pin, word};
 pub use fields::{block, characters, compared, digit_values, digits, put_block};
 pub use keys::{
     Asked, KeyPair, check_key_pair, check_lmk_key, check_wrapped_key, check_wrapping_key,
