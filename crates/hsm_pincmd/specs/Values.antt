@@ -7,11 +7,13 @@ use Rattle.hsm_tdes.specs.Tdes.{deciphered}
 use Rattle.hsm_pinblock.specs.declared.Format.{Format}
 use Rattle.hsm_pinblock.specs.declared.Format.TheVariants.{F01}
 use Rattle.hsm_pinblock.specs.Faults.{blockfault, pin_of_block, opened_block}
-use Rattle.hsm_verify.specs.Values.{table_ok}
+use Rattle.hsm_verify.specs.Values.{table_ok, natural_pin, offset, pvv}
+use Rattle.hsm_nibbles.specs.Characters.{hex_character}
 use Rattle.hsm_rows.specs.Rules.{lmk}
 use Rattle.hsm_answers.specs.declared.keys.Asked.{Asked}
 use Rattle.hsm_answers.specs.Keys.{key_of, opened_key, key_data_fault}
 use Rattle.hsm_answers.specs.Pins.{block_fault_code}
+use Rattle.hsm_answers.specs.Values.{validation_block}
 
 -- a key of the type, of any length, with its parity code
 abbrev pub asked_of : KeyType → ℕ → Asked
@@ -52,3 +54,11 @@ sealed_fault set text account = if is_some (blockfault F01 (opened_block set tex
 -- the PIN of a text under the LMK
 abbrev pub opened_pin : List (List (List ℕ)) → ℕ → List ℕ → List ℕ
 opened_pin set text account = pin_of_block F01 (opened_block set text) account
+
+-- the offset of a PIN as it is written: of its first digits, so many as `check` says, under the key, the decimalisation table and the validation data
+abbrev pub offset_text : List (List ℕ) → List ℕ → List ℕ → List ℕ → List ℕ → ℕ → List ℕ
+offset_text pvk table validation account pin check = map hex_character (offset (natural_pin pvk table (validation_block validation account)) pin check)
+
+-- the PVV of a PIN as it is written, under the pair
+abbrev pub pvv_text : List (List ℕ) → List (List ℕ) → List ℕ → ℕ → List ℕ → List ℕ
+pvv_text a b account index pin = map hex_character (pvv a b account index pin)

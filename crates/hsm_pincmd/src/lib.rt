@@ -6,3 +6,4 @@ mod keys;
 mod left;
 mod pins;
 mod texts;
+mod values;
