@@ -1,2 +1,3 @@
 pub mod LeftSteps
 pub mod ValidationSteps
+pub mod CheckSteps

@@ -2,8 +2,11 @@
 //! them, BA seals a PIN, NG shows one, JA draws one.
 #![tactic(auto)]
 
+mod by_offset;
 mod keys;
 mod left;
+mod passed;
 mod pins;
 mod texts;
+mod translate;
 mod values;
