@@ -1,3 +1,4 @@
 pub mod LeftSteps
 pub mod ValidationSteps
 pub mod CheckSteps
+pub mod ClearSteps

@@ -3,6 +3,8 @@
 #![tactic(auto)]
 
 mod by_offset;
+mod by_pvv;
+mod clear;
 mod keys;
 mod left;
 mod passed;
