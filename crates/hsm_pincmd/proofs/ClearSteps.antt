@@ -1,6 +1,6 @@
 -- The digits at the front of a clear PIN's text.
 use Rattle.std.proofs.Common.{◌≡◌, ℕ, suc, ◌+◌, ◌<◌, ◌≤◌, Bool, true, false, ◌&&◌, cond, List, [], ◌∷◌, ◌++◌, length, get_or, take, drop, map, refl, subst, ap, ap₂, sym, ◌∙◌, arith, drop-cons, append_assoc}
-use Rattle.std.specs.Prelude.{Option, Some, None, if◌then◌else◌, take_while, nat_le, nat_lt}
+use Rattle.std.specs.Prelude.{Option, Some, None, if◌then◌else◌, nat_le, nat_lt}
 use Rattle.std.specs.List.{list_all, prefix_len}
 use Rattle.std.specs.Char.{is_ascii_digit}
 use Rattle.std.proofs.lemmas.Bool.Decides.{nat_tests}

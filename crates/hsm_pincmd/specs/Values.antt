@@ -1,8 +1,7 @@
 -- Keys and PINs of the PIN commands, and what is wrong with them.
-use Rattle.std.specs.Prelude.{ℕ, Bool, false, nat_lt, if◌then◌else◌, List, length, map, take_while, Option, Some, None, is_some}
+use Rattle.std.specs.Prelude.{ℕ, false, nat_lt, if◌then◌else◌, List, length, map, take_while, Option, Some, None, is_some}
 use Rattle.std.specs.Char.{is_ascii_digit}
 use Rattle.hsm_types.specs.declared.types.KeyType.{KeyType}
-use Rattle.hsm_types.specs.declared.types.KeyType.TheVariants.{Tpk}
 use Rattle.hsm_lmk.specs.Sealing.{wrap}
 use Rattle.hsm_tdes.specs.Tdes.{deciphered}
 use Rattle.hsm_pinblock.specs.declared.Format.{Format}

@@ -99,7 +99,13 @@ fn sent_between(source: &Key, fields: &Fields<'_>) -> Result<Pin, Code>
     }
     let account = digits_of(fields, 6);
     let sent = block_of_field(fields, 3);
-    match sent_within(source, format_of(fields, 4), sent, &account, number_of(fields, 2)) {
+    match sent_within(
+        source,
+        format_of(fields, 4),
+        sent,
+        &account,
+        number_of(fields, 2),
+    ) {
         Ok(pin) => match shorter(number_of(fields, 5), &pin) {
             Some(code) => Err(code),
             None => Ok(pin),
@@ -134,13 +140,23 @@ fn offset_code(source: &Key, pvk: &Key, fields: &Fields<'_>) -> Option<Code>
 // What a message of DA or EA has, the first key being of the type; or the code of the first check before its entry that
 // fails.
 #[tactic(auto, unfolding(hsm_answers::specs::Checks::check_before, hsm_answers::specs::Checks::permit_fault, hsm_answers::specs::Checks::parts_fault, hsm_answers::specs::Checks::check_after, hsm_answers::specs::Checks::checks_fault, hsm_answers::specs::Checks::data_fault, hsm_answers::specs::Checks::compared_fault, hsm_answers::specs::Keys::keys_fault, hsm_answers::specs::Keys::key_fault, hsm_answers::specs::Keys::type_of, hsm_answers::specs::Keys::lmk_key, hsm_answers::specs::Pins::pin_from, hsm_answers::specs::Pins::pin_fault, hsm_answers::specs::Values::row_value))]
-pub(crate) fn check_offset(module: &Module, ty: KeyType, fields: &Fields<'_>) -> Result<Passed, Code>
+pub(crate) fn check_offset(
+    module: &Module,
+    ty: KeyType,
+    fields: &Fields<'_>,
+) -> Result<Passed, Code>
     requires { AreTexts row_DA.fields (read_text_of fields.now).texts }
     ensures fault { code_in result ≡ check_before «module».now (verifies_offset ty) (read_text_of fields.now) }
     ensures late { IfOk result (λ p. option_map number_of p.late ≡ check_after «module».now (verifies_offset ty) (read_text_of fields.now)) }
     ensures left { IfOk result (λ p. p.left ≡ Left.Nothing) }
 {
-    match two_keys(&module.lmk, ty, text_of(fields, 0), KeyType::Tpk, text_of(fields, 1)) {
+    match two_keys(
+        &module.lmk,
+        ty,
+        text_of(fields, 0),
+        KeyType::Tpk,
+        text_of(fields, 1),
+    ) {
         Ok(keys) => Ok(Passed {
             late: offset_code(&keys.source, &keys.second, fields),
             left: Left::Nothing,

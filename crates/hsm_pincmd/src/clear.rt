@@ -87,7 +87,11 @@ fn shown_pin(module: &Module, fields: &Fields<'_>) -> Result<Left, Code>
     ensures left { IfOk result (λ left. left ≡ Left.Show (opened_pin «module».now.lmk (block_at (read_text_of fields.now) 1) (digits_at (read_text_of fields.now) 0))) }
     ensures sound { IfOk result CanFinish }
 {
-    match opened_pin(&module.lmk, block_of_field(fields, 1), &digits_of(fields, 0)) {
+    match opened_pin(
+        &module.lmk,
+        block_of_field(fields, 1),
+        &digits_of(fields, 0),
+    ) {
         Ok(pin) => Ok(Left::Show(pin)),
         Err(code) => Err(code),
     }

@@ -5,10 +5,14 @@
 mod by_offset;
 mod by_pvv;
 mod clear;
+mod command;
 mod keys;
 mod left;
 mod passed;
 mod pins;
+mod plan;
 mod texts;
 mod translate;
 mod values;
+
+pub use plan::{PinPlan, finish, prepare};

@@ -33,7 +33,13 @@ fn translated(source: &Key, target: &Key, fields: &Fields<'_>) -> Result<Left, C
 {
     let account = digits_of(fields, 6);
     let sent = block_of_field(fields, 3);
-    match sent_within(source, format_of(fields, 4), sent, &account, number_of(fields, 2)) {
+    match sent_within(
+        source,
+        format_of(fields, 4),
+        sent,
+        &account,
+        number_of(fields, 2),
+    ) {
         Ok(pin) => Ok(Left::Translate {
             pin,
             format: format_of(fields, 5),
@@ -47,14 +53,24 @@ fn translated(source: &Key, target: &Key, fields: &Fields<'_>) -> Result<Left, C
 // What a message of CA or CC has, the first key being of the type; or the code of the first check before its entry that
 // fails.
 #[tactic(auto, using(crate::proofs::CheckSteps::only_first), unfolding(hsm_answers::specs::Checks::check_before, hsm_answers::specs::Checks::permit_fault, hsm_answers::specs::Checks::parts_fault, hsm_answers::specs::Checks::check_after, hsm_answers::specs::Checks::checks_fault, hsm_answers::specs::Checks::data_fault, hsm_answers::specs::Checks::compared_fault, hsm_answers::specs::Keys::keys_fault, hsm_answers::specs::Keys::key_fault, hsm_answers::specs::Keys::type_of, hsm_answers::specs::Keys::lmk_key, hsm_answers::specs::Pins::pin_from, hsm_answers::specs::Pins::pin_fault))]
-pub(crate) fn check_translation(module: &Module, ty: KeyType, fields: &Fields<'_>) -> Result<Passed, Code>
+pub(crate) fn check_translation(
+    module: &Module,
+    ty: KeyType,
+    fields: &Fields<'_>,
+) -> Result<Passed, Code>
     requires { AreTexts row_CA.fields (read_text_of fields.now).texts }
     ensures fault { code_in result ≡ check_before «module».now (translates ty) (read_text_of fields.now) }
     ensures late { IfOk result (λ p. option_map number_of p.late ≡ check_after «module».now (translates ty) (read_text_of fields.now)) }
     ensures left { IfOk result (λ p. p.left ≡ left_after p.late (left_translation ty «module».now (read_text_of fields.now))) }
     ensures sound { IfOk result (λ p. CanFinish p.left) }
 {
-    match two_keys(&module.lmk, ty, text_of(fields, 0), KeyType::Zpk, text_of(fields, 1)) {
+    match two_keys(
+        &module.lmk,
+        ty,
+        text_of(fields, 0),
+        KeyType::Zpk,
+        text_of(fields, 1),
+    ) {
         Ok(keys) => Ok(outcome_of(translated(&keys.source, &keys.second, fields))),
         Err(code) => Err(code),
     }

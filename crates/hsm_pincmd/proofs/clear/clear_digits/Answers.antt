@@ -1,4 +1,4 @@
-use Rattle.std.proofs.Common.{◌++◌, ◌∷◌, [], ◌+◌, ◌∙◌, ℕ, List, length, drop, ap, sym, arith, length-append}
+use Rattle.std.proofs.Common.{◌++◌, ◌∷◌, [], ◌+◌, ◌∙◌, ℕ, List, drop, ap, sym, arith}
 use Rattle.hsm_pincmd.specs.Values.{clear_digits}
 use Rattle.hsm_pincmd.proofs.ClearSteps.{clear_more}
 use Rattle.hsm_pincmd.proofs.clear.clear_digits.Goals as goal

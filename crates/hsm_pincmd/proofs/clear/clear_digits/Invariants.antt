@@ -1,7 +1,4 @@
-use Rattle.std.proofs.Common.{◌≡◌, ◌++◌, ◌≤◌, length, drop, map}
-use Rattle.std.specs.Prelude.{take_while}
-use Rattle.std.specs.Char.{is_ascii_digit}
-use Rattle.hsm_nibbles.specs.Characters.{digit_value}
+use Rattle.std.proofs.Common.{◌≡◌, ◌++◌, ◌≤◌, length, drop}
 use Rattle.hsm_pincmd.specs.Values.{clear_digits}
 use Rattle.hsm_pincmd.proofs.clear.clear_digits.Given as goal
 
