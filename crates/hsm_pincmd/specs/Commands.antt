@@ -18,8 +18,8 @@ use Rattle.hsm_pincmd.specs.Rows.{left_translation, left_DE, left_DG, left_BA, l
 -- the row is that of a PIN command
 abbrev pub IsPinRow : RowShape → Type 0
 IsPinRow row =
-    (row ≡ row_CA) ⊎ ((row ≡ row_CC) ⊎ ((row ≡ row_DE) ⊎ ((row ≡ row_DG) ⊎ ((row ≡ row_DA) ⊎ ((row ≡ row_EA) ⊎ ((row ≡ row_DC) ⊎ ((row ≡ row_EC)
-    ⊎ ((row ≡ row_BA) ⊎ ((row ≡ row_NG) ⊎ (row ≡ row_JA))))))))))
+    (row ≡ row_CA) ⊎ ((row ≡ row_CC) ⊎ ((row ≡ row_DE) ⊎ ((row ≡ row_DG) ⊎ ((row ≡ row_DA) ⊎ ((row ≡ row_EA) ⊎ ((row ≡ row_DC)
+    ⊎ ((row ≡ row_EC) ⊎ ((row ≡ row_BA) ⊎ ((row ≡ row_NG) ⊎ (row ≡ row_JA))))))))))
 
 -- the command of a code
 abbrev pub command_by : List ℕ → Command

@@ -21,7 +21,9 @@ sent_faults key r = sent_fault key (format_at r 4) (block_at r 3) (digits_at r 6
 
 -- what is wrong with the data of DA and EA: the table of field 7, the block, a PIN longer than field 2 says, or shorter than field 5 says
 abbrev pub offset_faults : List (List ℕ) → ReadText → List (Option ℕ)
-offset_faults key r = table_fault (digits_at r 7) ∷ sent_fault key (format_at r 4) (block_at r 3) (digits_at r 6) ∷ longer_fault (number_at r 2) (pin_sent key r) ∷ shorter_fault (number_at r 5) (pin_sent key r) ∷ []
+offset_faults key r =
+    table_fault (digits_at r 7) ∷ sent_fault key (format_at r 4) (block_at r 3) (digits_at r 6)
+    ∷ longer_fault (number_at r 2) (pin_sent key r) ∷ shorter_fault (number_at r 5) (pin_sent key r) ∷ []
 
 -- DE: the PIN of the text under the LMK in field 1, with the account of field 3
 abbrev pub pin_sealed : List (List (List ℕ)) → ReadText → List ℕ
@@ -29,7 +31,8 @@ pin_sealed set r = opened_pin set (block_at r 1) (digits_at r 3)
 
 -- what is wrong with DE's data: the table of field 4, the text, and a PIN shorter than field 2 says
 abbrev pub sealed_faults : List (List (List ℕ)) → ReadText → List (Option ℕ)
-sealed_faults set r = table_fault (digits_at r 4) ∷ sealed_fault set (block_at r 1) (digits_at r 3) ∷ shorter_fault (number_at r 2) (pin_sealed set r) ∷ []
+sealed_faults set r =
+    table_fault (digits_at r 4) ∷ sealed_fault set (block_at r 1) (digits_at r 3) ∷ shorter_fault (number_at r 2) (pin_sealed set r) ∷ []
 
 -- CA and CC: the PIN in the second format under the second key
 abbrev pub left_translation : KeyType → Module → ReadText → Left

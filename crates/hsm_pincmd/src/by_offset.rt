@@ -55,8 +55,8 @@ fn made_offset(set: &LmkSet, pvk: &Key, fields: &Fields<'_>) -> Result<Left, Cod
     requires { AreTexts row_DE.fields (read_text_of fields.now).texts }
     ensures fault { code_in result ≡ first_code (sealed_faults set.now (read_text_of fields.now)) }
     ensures left { IfOk result (λ left. left
-        ≡ Left.Offset (offset_text pvk.now (digits_at (read_text_of fields.now) 4) (field_text (read_text_of fields.now) 5) (digits_at (read_text_of fields.now) 3)
-        (pin_sealed set.now (read_text_of fields.now)) (number_at (read_text_of fields.now) 2))) }
+        ≡ Left.Offset (offset_text pvk.now (digits_at (read_text_of fields.now) 4) (field_text (read_text_of fields.now) 5)
+        (digits_at (read_text_of fields.now) 3) (pin_sealed set.now (read_text_of fields.now)) (number_at (read_text_of fields.now) 2))) }
     ensures sound { IfOk result CanFinish }
 {
     match sealed_within(set, fields) {
@@ -121,8 +121,8 @@ fn offset_code(source: &Key, pvk: &Key, fields: &Fields<'_>) -> Option<Code>
     ensures { option_map number_of result
         ≡ first_code (first_code (offset_faults source.now (read_text_of fields.now))
         ∷ compared_code (field_text (read_text_of fields.now) 9)
-        (offset_text pvk.now (digits_at (read_text_of fields.now) 7) (field_text (read_text_of fields.now) 8) (digits_at (read_text_of fields.now) 6)
-        (pin_sent source.now (read_text_of fields.now)) (number_at (read_text_of fields.now) 5)) ∷ []) }
+        (offset_text pvk.now (digits_at (read_text_of fields.now) 7) (field_text (read_text_of fields.now) 8)
+        (digits_at (read_text_of fields.now) 6) (pin_sent source.now (read_text_of fields.now)) (number_at (read_text_of fields.now) 5)) ∷ []) }
 {
     match sent_between(source, fields) {
         Ok(pin) => {

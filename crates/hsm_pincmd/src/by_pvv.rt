@@ -77,10 +77,12 @@ fn pvv_code(keys: &KeyAndPair, fields: &Fields<'_>) -> Option<Code>
     requires first { length keys.now.pair.first ≡ 1 }
     requires second { length keys.now.pair.second ≡ 1 }
     ensures { option_map number_of result
-        ≡ first_code (sent_fault keys.now.source (format_at (read_text_of fields.now) 3) (block_at (read_text_of fields.now) 2) (digits_at (read_text_of fields.now) 4)
+        ≡ first_code
+        (sent_fault keys.now.source (format_at (read_text_of fields.now) 3) (block_at (read_text_of fields.now) 2) (digits_at (read_text_of fields.now) 4)
         ∷ compared_code (field_text (read_text_of fields.now) 6)
         (pvv_text keys.now.pair.first keys.now.pair.second (digits_at (read_text_of fields.now) 4) (index_at (read_text_of fields.now) 5)
-        (sent_pin keys.now.source (format_at (read_text_of fields.now) 3) (block_at (read_text_of fields.now) 2) (digits_at (read_text_of fields.now) 4))) ∷ []) }
+        (sent_pin keys.now.source (format_at (read_text_of fields.now) 3) (block_at (read_text_of fields.now) 2)
+        (digits_at (read_text_of fields.now) 4))) ∷ []) }
 {
     let account = digits_of(fields, 4);
     let sent = block_of_field(fields, 2);

@@ -56,7 +56,8 @@ fn clear_pin(text: &[u8]) -> Result<Pin, Code>
 fn given_pin(fields: &Fields<'_>) -> Result<Left, Code>
     requires { AreTexts row_BA.fields (read_text_of fields.now).texts }
     ensures fault { code_in result ≡ clear_fault (field_text (read_text_of fields.now) 0) }
-    ensures left { IfOk result (λ left. left ≡ Left.Seal (clear_digits (field_text (read_text_of fields.now) 0)) (digits_at (read_text_of fields.now) 1)) }
+    ensures left { IfOk result (λ left. left
+        ≡ Left.Seal (clear_digits (field_text (read_text_of fields.now) 0)) (digits_at (read_text_of fields.now) 1)) }
     ensures sound { IfOk result CanFinish }
 {
     match clear_pin(text_of(fields, 0)) {
@@ -84,7 +85,8 @@ pub(crate) fn check_ba(module: &Module, fields: &Fields<'_>) -> Passed
 fn shown_pin(module: &Module, fields: &Fields<'_>) -> Result<Left, Code>
     requires { AreTexts row_NG.fields (read_text_of fields.now).texts }
     ensures fault { code_in result ≡ sealed_fault «module».now.lmk (block_at (read_text_of fields.now) 1) (digits_at (read_text_of fields.now) 0) }
-    ensures left { IfOk result (λ left. left ≡ Left.Show (opened_pin «module».now.lmk (block_at (read_text_of fields.now) 1) (digits_at (read_text_of fields.now) 0))) }
+    ensures left { IfOk result (λ left. left
+        ≡ Left.Show (opened_pin «module».now.lmk (block_at (read_text_of fields.now) 1) (digits_at (read_text_of fields.now) 0))) }
     ensures sound { IfOk result CanFinish }
 {
     match opened_pin(

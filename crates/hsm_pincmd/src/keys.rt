@@ -85,20 +85,20 @@ pub(crate) fn two_keys(
 // The key and the PVK pair of two texts, or the first code that holds of the first of them that has one.
 pub(crate) fn key_and_pair(
     set: &LmkSet,
-    first: KeyType,
-    source: &[u8],
-    second: &[u8],
+    ty: KeyType,
+    key: &[u8],
+    pair: &[u8],
 ) -> Result<KeyAndPair, Code>
-    requires { scheme_parts (scheme_of second.now) ≡ 2 }
-    ensures fault { code_in result ≡ first_code (type_fault set.now first 10 source.now ∷ type_fault set.now KeyType.Tpk 11 second.now ∷ []) }
-    ensures source { IfOk result (λ keys. keys.source ≡ type_key set.now first source.now) }
-    ensures first { IfOk result (λ keys. keys.pair.first ≡ first_part (type_key set.now KeyType.Tpk second.now)) }
-    ensures second { IfOk result (λ keys. keys.pair.second ≡ second_part (type_key set.now KeyType.Tpk second.now)) }
+    requires { scheme_parts (scheme_of pair.now) ≡ 2 }
+    ensures fault { code_in result ≡ first_code (type_fault set.now ty 10 key.now ∷ type_fault set.now KeyType.Tpk 11 pair.now ∷ []) }
+    ensures source { IfOk result (λ keys. keys.source ≡ type_key set.now ty key.now) }
+    ensures first { IfOk result (λ keys. keys.pair.first ≡ first_part (type_key set.now KeyType.Tpk pair.now)) }
+    ensures second { IfOk result (λ keys. keys.pair.second ≡ second_part (type_key set.now KeyType.Tpk pair.now)) }
     ensures first_part { IfOk result (λ keys. length keys.pair.first ≡ 1) }
     ensures second_part { IfOk result (λ keys. length keys.pair.second ≡ 1) }
 {
-    match key_of(set, first, Code(10), source) {
-        Ok(source) => match pvk_pair(set, Code(11), second) {
+    match key_of(set, ty, Code(10), key) {
+        Ok(source) => match pvk_pair(set, Code(11), pair) {
             Ok(pair) => Ok(KeyAndPair { source, pair }),
             Err(code) => Err(code),
         },

@@ -28,7 +28,8 @@ fn translated(source: &Key, target: &Key, fields: &Fields<'_>) -> Result<Left, C
     requires { AreTexts row_CA.fields (read_text_of fields.now).texts }
     ensures fault { code_in result ≡ first_code (sent_faults source.now (read_text_of fields.now)) }
     ensures left { IfOk result (λ left. left
-        ≡ Left.Translate (pin_sent source.now (read_text_of fields.now)) (format_at (read_text_of fields.now) 5) (digits_at (read_text_of fields.now) 6) target.now) }
+        ≡ Left.Translate (pin_sent source.now (read_text_of fields.now)) (format_at (read_text_of fields.now) 5)
+        (digits_at (read_text_of fields.now) 6) target.now) }
     ensures sound { IfOk result CanFinish }
 {
     let account = digits_of(fields, 6);
