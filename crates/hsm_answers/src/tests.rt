@@ -1,9 +1,9 @@
-use crate::{draw_key, draw_pin};
+use crate::{draw_key, word};
 use arrayvec::ArrayVec;
 use hsm_lmk::LmkSet;
 use hsm_rows::Module;
 use hsm_tdes::Key;
-use hsm_types::{Permits, Pin};
+use hsm_types::Permits;
 use std::test::Fail;
 
 // A module whose LMK halves are all equal and whose seed is of zeros.
@@ -23,7 +23,7 @@ fn module() -> Option<Module> {
     })
 }
 
-// The keys are of the ChaCha20 words of the seed, adjusted to odd parity; the digits of the PIN are words modulo 10.
+// The keys are of the ChaCha20 words of the seed, adjusted to odd parity.
 #[test]
 fn draws(rt: HostRuntime) -> Result<(), Fail> {
     let module = module().ok_or("parity")?;
@@ -37,7 +37,8 @@ fn draws(rt: HostRuntime) -> Result<(), Fail> {
     );
     assert_eq!(rt; draw_key(&module, 0, 2), first);
     assert_eq!(rt; draw_key(&module, 4, 2), second);
-    let pin = Pin::of(&[4, 6, 2, 1]).ok_or("a PIN")?;
-    assert_eq!(rt; draw_pin(&module, 0, 4), pin);
+    for (place, digit) in [(0, 4), (1, 6), (2, 2), (3, 1)] {
+        assert_eq!(rt; word(&module, place) % 10, digit);
+    }
     Ok(())
 }
