@@ -12,6 +12,7 @@ use Rattle.hsm_lmk.specs.Opened.{all_odd, has_odd_parity}
 use Rattle.hsm_lmk.specs.declared.LmkFault.{LmkFault}
 use Rattle.hsm_lmk.specs.declared.LmkFault.TheVariants.{Parity}
 use Rattle.hsm_lmk.proofs.OpenAnswers.{all_odd-Decides}
+use Rattle.hsm_config.specs.Rules.{are_odd}
 
 part_odd : (n : ℕ) (bytes : List ℕ) → AllPass has_odd_parity bytes → list_all has_odd_parity (take n bytes) ≡ true
 part_odd n bytes odd = list_all-from_AllPass has_odd_parity (take n bytes) (All-take (λ byte. has_odd_parity byte ≡ true) n bytes odd)
@@ -27,7 +28,7 @@ key_odd pair odd =
 pub all_at : (p : List ℕ → Bool) (xs : List (List ℕ)) (k : ℕ) → list_all p xs ≡ true → k < length xs → p (get_or xs k []) ≡ true
 all_at p xs k all within = elim (cases_Bool (p (get_or xs k []))) [ inl holds ↦ holds | inr fails ↦ absurd (cc (list_all_at p xs k [] within fails)) ]
 
-no_even_pair : (pairs : List (List ℕ)) (k : ℕ) → list_all (λ pair. list_all has_odd_parity pair) pairs ≡ true → IsFirstEven pairs k → ⊥
+no_even_pair : (pairs : List (List ℕ)) (k : ℕ) → are_odd pairs ≡ true → IsFirstEven pairs k → ⊥
 no_even_pair pairs k odd first =
     first.even ((all_odd-Decides (pair_key (get_or pairs k []))).0 (key_odd (get_or pairs k []) (all_at (λ (pair : List ℕ). list_all has_odd_parity pair) pairs k odd first.within)))
 
@@ -37,6 +38,6 @@ even_pair : {A : Type 0} (pairs : List (List ℕ)) (result : Result A LmkFault) 
 even_pair pairs result (Parity k) is exact = (k, (exact k).0 is)
 
 -- pairs of odd bytes are no fault
-pub no_fault : {A : Type 0} (pairs : List (List ℕ)) (result : Result A LmkFault) (fault : LmkFault) → list_all (λ pair. list_all has_odd_parity pair) pairs ≡ true
+pub no_fault : {A : Type 0} (pairs : List (List ℕ)) (result : Result A LmkFault) (fault : LmkFault) → are_odd pairs ≡ true
     → result ≡ Err fault → ((k : ℕ) → (result ≡ Err (Parity k)) ↔ IsFirstEven pairs k) → ⊥
 no_fault pairs result fault odd is exact = let first = even_pair pairs result fault is exact in no_even_pair pairs first.0 odd first.1

@@ -1,11 +1,9 @@
 -- The parts of a document's configuration, each with its rule.
 use Rattle.std.proofs.Common.{◌≡◌, ℕ, Bool, true, false, ◌∷◌, List, Option, Some, None, Ok, Err, unwrap_or, option_map, if◌then◌else◌, codes, refl, sym, ap, ◌∙◌}
-use Rattle.std.specs.List.{list_all}
 use Rattle.arrayvec.specs.ArrayVec.{ArrayVec}
 use Rattle.toml.specs.Data.{Data, Members}
-use Rattle.hsm_lmk.specs.Opened.{has_odd_parity}
 use Rattle.hsm_config.specs.Document.{all_hex_bytes, are_hex, elements_at, number_at}
-use Rattle.hsm_config.specs.Rules.{all_different, first_broken, has_different_ports, has_host_ports, has_odd_pairs, has_officers, host_ports_of, officers_of, pairs_of}
+use Rattle.hsm_config.specs.Rules.{all_different, are_odd, first_broken, has_different_ports, has_host_ports, has_odd_pairs, has_officers, host_ports_of, officers_of, pairs_of}
 use Rattle.hsm_config.specs.Configs.{config_of, settled}
 use Rattle.hsm_config.specs.declared.configuration.ConfigFault.TheVariants.{Rule}
 use Rattle.hsm_config.proofs.TestedAnswers.{none_if, some_if}
@@ -25,8 +23,8 @@ pub no_officers : (d : Members) (values : List Data) (r : Option (List (List ℕ
     → r ≡ (if are_hex 2 64 values then Some (all_hex_bytes values) else None) → r ≡ None → has_officers d ≡ false
 no_officers d values r is read none = sym (ap (are_hex 2 64) is) ∙ none_if (are_hex 2 64 values) (all_hex_bytes values) r read none
 
-pub odd_pairs : (d : Members) (pairs : List (List ℕ)) (b : Bool) → pairs ≡ pairs_of d → list_all (λ pair. list_all has_odd_parity pair) pairs ≡ b → has_odd_pairs d ≡ b
-odd_pairs d pairs b is odd = sym (ap (λ (ps : List (List ℕ)). list_all (λ pair. list_all has_odd_parity pair) ps) is) ∙ odd
+pub odd_pairs : (d : Members) (pairs : List (List ℕ)) (b : Bool) → pairs ≡ pairs_of d → are_odd pairs ≡ b → has_odd_pairs d ≡ b
+odd_pairs d pairs b is odd = sym (ap are_odd is) ∙ odd
 
 pub ports_there : (d : Members) (r : Option (ArrayVec ℕ)) (x : ArrayVec ℕ) → option_map (λ ports. ports.items) r ≡ (if has_host_ports d then Some (host_ports_of d) else None)
     → r ≡ Some x → (has_host_ports d ≡ true) × (x.items ≡ host_ports_of d)

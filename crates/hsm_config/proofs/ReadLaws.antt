@@ -9,9 +9,8 @@ use Rattle.std.proofs.lemmas.List.{length-map}
 use Rattle.std.proofs.lemmas.Str.{IsUtf8-from_is_utf8, is_utf8-from_IsUtf8}
 use Rattle.toml.specs.Data.{Data, Members}
 use Rattle.toml.specs.Parse.{parse_document}
-use Rattle.hsm_lmk.specs.Opened.{has_odd_parity}
 use Rattle.hsm_config.specs.Document.{elements_at, is_within, number_of}
-use Rattle.hsm_config.specs.Rules.{first_broken, has_host_ports, has_odd_pairs, host_ports_of}
+use Rattle.hsm_config.specs.Rules.{are_odd, first_broken, has_host_ports, has_odd_pairs, host_ports_of}
 use Rattle.hsm_config.specs.Configs.{config_in, config_of, settled}
 use Rattle.hsm_config.specs.declared.configuration.Config.{Config}
 use Rattle.hsm_config.specs.declared.configuration.ConfigFault.{ConfigFault}
@@ -46,12 +45,12 @@ told d None config is = (refl, cc is)
 told d (Some n) config is = cc is
 
 pub odd_told : (d : Members) (r : Result Config ConfigFault) → r ≡ settled d (first_broken d)
-    → IfOk r (λ config. list_all (λ pair. list_all has_odd_parity pair) config.pairs ≡ true)
+    → IfOk r (λ config. are_odd config.pairs ≡ true)
 unfolding config_of
 odd_told d (Ok config) is =
     let parts = told d (first_broken d) config is in
     let odd : has_odd_pairs d ≡ true = rule_holds d 5 (lit< tt) parts.0 in
-    ap (λ (c : Config). list_all (λ pair. list_all has_odd_parity pair) c.pairs) parts.1 ∙ odd
+    ap (λ (c : Config). are_odd c.pairs) parts.1 ∙ odd
 odd_told d (Err fault) is = tt
 
 some_elements : (values : List Data) (test : Bool) → ((nat_le 1 (length values) && nat_le (length values) 64) && test) ≡ true

@@ -32,6 +32,10 @@ even_pair left right = replicate 8 (adjusted_byte left) ++ replicate 8 (adjusted
 unfoldable pub test_pairs : List (List ℕ)
 test_pairs = map (λ k. even_pair (32 + 2 * k) (96 + 2 * k)) pair_numbers
 
+-- every byte of the pairs has odd parity
+abbrev pub are_odd : List (List ℕ) → Bool
+are_odd pairs = list_all (λ pair. list_all has_odd_parity pair) pairs
+
 -- the LMK pairs that a document says
 unfoldable pub pairs_of : Members → List (List ℕ)
 pairs_of document = if is_test (text_at (codes "lmk") document) then test_pairs else all_hex_bytes (elements_at (codes "lmk") document)
@@ -79,7 +83,7 @@ has_pairs document = is_test (text_at (codes "lmk") document) || are_hex 20 32 (
 
 -- 6: every byte of the LMK pairs has odd parity
 abbrev pub has_odd_pairs : Members → Bool
-has_odd_pairs document = list_all (λ pair. list_all has_odd_parity pair) (pairs_of document)
+has_odd_pairs document = are_odd (pairs_of document)
 
 -- 7: the console's port is an integer of 1 to 65535
 abbrev pub has_console_port : Members → Bool

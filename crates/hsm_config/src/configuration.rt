@@ -1,11 +1,9 @@
 //! The configuration of a document.
 
-ghost use Rattle.std.specs.Prelude.{◌≡◌, ◌⊎◌, ◌≤◌, length, true, IfOk, IfErr};
-ghost use Rattle.std.specs.List.{list_all};
+ghost use Rattle.std.specs.Prelude.{◌≡◌, ◌⊎◌, ◌≤◌, length, IsTrue, IfOk, IfErr};
 ghost use Rattle.toml.specs.View.{table_view};
-ghost use Rattle.hsm_lmk.specs.Opened.{has_odd_parity};
 ghost use Rattle.hsm_config.specs.Configs.{config_in, module_of, settled};
-ghost use Rattle.hsm_config.specs.Rules.{first_broken};
+ghost use Rattle.hsm_config.specs.Rules.{are_odd, first_broken};
 
 use crate::keys::has_known_keys;
 use crate::pairs::{are_odd, pairs_of};
@@ -55,7 +53,7 @@ impl Config {
         ensures ok { IfOk result (λ config. config_in bytes.now ≡ Ok config) }
         ensures refused { IfErr result (λ fault. (fault ≡ ConfigFault.Memory) ⊎ (config_in bytes.now ≡ Err fault)) }
         // What `module` wants of a configuration.
-        ensures odd { IfOk result (λ config. list_all (λ pair. list_all has_odd_parity pair) config.pairs ≡ true) }
+        ensures odd { IfOk result (λ config. IsTrue (are_odd config.pairs)) }
         ensures some_host { IfOk result (λ config. 1 ≤ length config.host_ports.items) }
         ensures most_hosts { IfOk result (λ config. length config.host_ports.items ≤ 64) }
     {
@@ -74,7 +72,7 @@ impl Config {
     /// The module of the configuration: the permits of the table of key types, and no row disabled.
     #[tactic(auto, unfolding(crate::specs::Configs::module_of))]
     pub fn module(&self, seed: [u8; 32]) -> Module
-        requires odd { list_all (λ pair. list_all has_odd_parity pair) self.now.pairs ≡ true }
+        requires odd { IsTrue (are_odd self.now.pairs) }
         requires some_host { 1 ≤ length self.now.host_ports.items }
         requires most_hosts { length self.now.host_ports.items ≤ 64 }
         ensures { result ≡ module_of self.now seed }

@@ -5,7 +5,7 @@ ghost use Rattle.std.specs.List.{list_all};
 ghost use Rattle.toml.specs.View.{table_view};
 ghost use Rattle.hsm_lmk.specs.Opened.{has_odd_parity};
 ghost use Rattle.hsm_config.specs.Document.{text_at};
-ghost use Rattle.hsm_config.specs.Rules.{has_pairs, is_test, pairs_of};
+ghost use Rattle.hsm_config.specs.Rules.{are_odd, has_pairs, is_test, pairs_of};
 
 use crate::values::{all_hex_bytes, elements_at, text_at};
 use toml::Table;
@@ -63,7 +63,7 @@ fn is_odd(pair: &[u8; 16]) -> bool
 
 // Whether every byte of the pairs has odd parity.
 pub fn are_odd(pairs: &[[u8; 16]; 20]) -> bool
-    ensures { result ≡ list_all (λ pair. list_all has_odd_parity pair) pairs.now }
+    ensures { result ≡ are_odd pairs.now }
 {
     pairs.iter().all(|pair| is_odd(pair))
 }
