@@ -1,4 +1,4 @@
-// The DES work of the messages that bench/script times, over libcrypto: TURNS turns of four messages under LMK set T.
+// The DES work of the messages that bench/script times, over libcrypto: TURNS turns of four messages under the test set of LMK pairs.
 //
 // A schedule is made for each different single-part key that a message meets, and is kept within the message alone:
 // those of the LMKs, which never change, could be kept over all messages, and a program that keeps them does less. A
