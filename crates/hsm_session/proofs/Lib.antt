@@ -6,4 +6,4 @@ pub mod Feeding
 pub mod PieceLaws
 pub mod Progress
 pub mod PlanLaws
-pub mod BuiltLaws
+pub mod FamilyLaws

@@ -4,7 +4,7 @@ ghost use Rattle.std.specs.Prelude.{◌≡◌, ◌+◌, ◌<◌, ◌≤◌, [], 
 ghost use Rattle.arrayvec.specs.ArrayVec.{array_vec_len};
 ghost use Rattle.hsm_io.specs.Outside.{Rose};
 ghost use Rattle.hsm_io.specs.Texts.{Appends};
-ghost use Rattle.hsm_session.specs.Plans.{IsBuilt, least_length};
+ghost use Rattle.hsm_session.specs.Plans.{least_length};
 ghost use Rattle.hsm_session.specs.Booking.{BooksAll, IsKnown};
 ghost use Rattle.hsm_session.specs.Runs.{counts, last_text, last_words, short_line};
 ghost use Rattle.hsm_session.specs.Lanes.{Drains, FeedsPiece, end_of};
@@ -49,9 +49,9 @@ impl Buffers {
         message: &[u8],
         out: &mut S,
     ) -> Result<(), OutFailed>
-        requires built { IsBuilt «module».now }
         requires known { IsKnown ledger.old }
         requires least { least_length «module».now ≤ length message.now }
+        requires most { length message.now ≤ 65535 }
         ensures booked { OnOk result (BooksAll «module».now (message.now ∷ []) ledger.old ledger.new (S.stands_for out.old) (S.stands_for out.new)) }
         ensures failed { OnErr result (Rose (S.faults out.old) (S.faults out.new)) }
         ensures kept { OnOk result (S.faults out.new ≡ S.faults out.old) }
@@ -112,7 +112,6 @@ fn answer_held<S: Sink>(
     buffers: &mut Buffers,
     out: &mut S,
 ) -> Result<Drained, OutFailed>
-    requires built { IsBuilt «module».now }
     requires known { IsKnown ledger.old }
     requires least { frames.old.least ≡ least_length «module».now }
     requires room { length frames.old.bytes ≤ 65537 }
@@ -162,7 +161,6 @@ impl Lane {
         buffers: &mut Buffers,
         out: &mut S,
     ) -> Result<(), OutFailed>
-        requires built { IsBuilt «module».now }
         requires known { IsKnown ledger.old }
         requires least { self.old.frames.least ≡ least_length «module».now }
         requires held { length self.old.frames.bytes < 65537 }

@@ -1,7 +1,7 @@
-//! What the module asks of the ledger and answers to a host's messages, and runs of scripts.
+//! What the module asks of the ledger and answers to messages, and runs of scripts.
 #![tactic(auto)]
 
-mod built;
+mod families;
 mod lane;
 mod pieces;
 mod plans;
@@ -9,7 +9,6 @@ mod script;
 mod text;
 mod whole;
 
-pub use built::unbuilt;
 pub use plans::{Kind, Plan, finish, prepare};
 pub use script::{ScriptEnd, ScriptFault, script_run};
 pub use whole::answer;
