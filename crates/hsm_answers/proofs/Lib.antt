@@ -2,3 +2,5 @@ pub mod Lengths
 pub mod AnswerSteps
 pub mod PlanSteps
 pub mod Repeats
+pub mod DigitTexts
+pub mod PairLengths

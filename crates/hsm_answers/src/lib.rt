@@ -2,6 +2,7 @@
 #![tactic(auto)]
 
 mod draws;
+mod fields;
 mod keys;
 pub mod laws;
 mod needs;
@@ -9,9 +10,10 @@ mod plans;
 mod texts;
 
 pub use draws::{draw_key, word};
+pub use fields::{block, digit_values, digits, put_block};
 pub use keys::{
-    Asked, check_lmk_key, check_wrapped_key, check_wrapping_key, flag_parts, repeats_part,
-    scheme_named, type_by_pair, type_of_code, wrapper_type,
+    Asked, KeyPair, check_key_pair, check_lmk_key, check_wrapped_key, check_wrapping_key,
+    flag_parts, repeats_part, scheme_named, type_by_pair, type_of_code, wrapper_type,
 };
 pub use needs::{host_activity, need_by};
 pub use plans::{Checked, empty_ask, first_of, put_code};

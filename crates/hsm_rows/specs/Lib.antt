@@ -3,6 +3,7 @@ pub mod Table
 pub mod Forms
 pub mod Reading
 pub mod Places
+pub mod Standing
 pub mod Rules
 pub mod Bounds
 pub mod Clear
