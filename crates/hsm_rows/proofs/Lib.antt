@@ -5,3 +5,4 @@ pub mod ReadBack
 pub mod Refusals
 pub mod PlaceLemmas
 pub mod RowLemmas
+pub mod ConsoleStands

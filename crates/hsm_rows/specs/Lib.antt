@@ -3,6 +3,7 @@ pub mod Table
 pub mod Forms
 pub mod Reading
 pub mod Places
+pub mod ConsoleStanding
 pub mod Rules
 pub mod Bounds
 pub mod Clear

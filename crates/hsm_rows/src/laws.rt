@@ -4,9 +4,10 @@ ghost use Rattle.std.specs.List.{list_all};
 ghost use Rattle.hsm_rows.specs.declared.row.Form.{Form};
 ghost use Rattle.hsm_rows.specs.declared.row.Code.{Code};
 ghost use Rattle.hsm_rows.specs.Forms.{size};
-ghost use Rattle.hsm_rows.specs.Table.{RowShape, all_rows};
+ghost use Rattle.hsm_rows.specs.Table.{RowShape, all_rows, row_A, row_FK};
 ghost use Rattle.hsm_rows.specs.Bounds.{has_few_fields, has_few_needs};
 ghost use Rattle.hsm_rows.specs.Reading.{ReadText, reading, RowReads, RowRefuses};
+ghost use Rattle.hsm_rows.specs.ConsoleStanding.{AuthorisationStands, ComponentsStand};
 ghost use Rattle.hsm_rows.specs.Clear.{OnlyNgAndGcShow, MarksAreShown, NgNeeds, GcNeeds};
 
 /// Each text has by each row just one answer: one reading, or one code that refuses it.
@@ -18,6 +19,12 @@ pub fn one_reading()
 /// A text that stands is no longer than what is left.
 pub fn sizes_fit()
     ensures { (f : Form) (earlier : List (List ℕ)) (rest : List ℕ) (n : ℕ) → size f earlier rest ≡ Some n → n ≤ length rest }
+{}
+
+/// What the texts of an authorisation and of a key's components are, where the row read them.
+pub fn console_texts_stand()
+    ensures authorisation { (text : List ℕ) (r : ReadText) → reading row_A text ≡ Ok r → AuthorisationStands r }
+    ensures components { (text : List ℕ) (r : ReadText) → reading row_FK text ≡ Ok r → ComponentsStand r }
 {}
 
 /// No row but NG and GC has a reply field that shows a clear key or PIN; these two need an activity.
