@@ -8,7 +8,6 @@ ghost use Rattle.hsm_rows.specs.Table.{RowShape, all_rows, row_A, row_FK};
 ghost use Rattle.hsm_rows.specs.Bounds.{has_few_fields, has_few_needs};
 ghost use Rattle.hsm_rows.specs.Reading.{ReadText, reading, RowReads, RowRefuses, is_console};
 ghost use Rattle.hsm_rows.specs.Standing.{TextsStand, AreTexts};
-ghost use Rattle.hsm_rows.specs.Reading.{ReadText, reading, RowReads, RowRefuses};
 ghost use Rattle.hsm_rows.specs.ConsoleStanding.{AuthorisationStands, ComponentsStand};
 ghost use Rattle.hsm_rows.specs.Clear.{OnlyNgAndGcShow, MarksAreShown, NgNeeds, GcNeeds};
 

@@ -10,7 +10,9 @@ mod settings;
 mod table;
 mod texts;
 
-pub use laws::{clear_marks, console_texts_stand, few_fields_and_needs, one_reading, sizes_fit};
+pub use laws::{
+    clear_marks, console_texts_stand, few_fields_and_needs, one_reading, sizes_fit, texts_stand,
+};
 pub use listing::explain;
 pub use read::{Fields, read_fields};
 pub use row::{Code, Field, Form, Public, Row, Secret};
