@@ -1,5 +1,5 @@
 -- The texts that a host row reads stand, and are texts of their forms.
-use Rattle.std.proofs.Common.{◌≡◌, ℕ, Bool, false, ◌+◌, List, [], ◌∷◌, ◌++◌, length, refl, subst, sym, ap, ◌∙◌, append_assoc, length-append}
+use Rattle.std.proofs.Common.{inl, inr, ◌≡◌, ℕ, Bool, false, ◌+◌, List, [], ◌∷◌, ◌++◌, length, refl, subst, sym, ap, ◌∙◌, append_assoc, length-append}
 use Rattle.std.specs.Prelude.{codes, Ok}
 use Rattle.std.specs.Char.{is_ascii_digit, is_ascii_hexdigit}
 use Rattle.std.proofs.Math.Seq.{get_or-append_seam}
@@ -9,7 +9,7 @@ use Rattle.hsm_rows.specs.declared.row.Field.{Field}
 use Rattle.hsm_rows.specs.Table.{RowShape}
 use Rattle.hsm_rows.specs.Forms.{size, formats, text_at, last_text, mode_is, hex_value, two_digit_value, mac_digits}
 use Rattle.hsm_rows.specs.Reading.{reading, ReadText, is_console, Reads, at_end, one_more, Placed, in_host, in_console, left_out, Stands}
-use Rattle.hsm_rows.specs.Standing.{StandsBefore, IsText, EachText, TextsStand, AreTexts, AreHexDigits}
+use Rattle.hsm_rows.specs.Standing.{IsFormat, StandsBefore, IsText, EachText, TextsStand, AreTexts, AreHexDigits}
 use Rattle.hsm_text.specs.Sizes.{hex_size}
 use Rattle.hsm_rows.proofs.Refusals.{row_reads}
 use Rattle.hsm_rows.proofs.TextForms.{run_text, one_of_text, length_text, account_text, filled_text, clear_text, validation_text, pair_text, count_text, take_text, data_text, when_text}
@@ -33,7 +33,7 @@ is_text form.Type2 e t rest h = (rest, h)
 is_text form.Flag e t rest h = (rest, h)
 is_text form.Scheme e t rest h = (rest, h)
 is_text form.WrapScheme e t rest h = (rest, h)
-is_text form.Format e t rest h = one_of_text (λ (x : List ℕ). length x ≡ 2) formats t rest (refl, (refl, (refl, (refl, tt)))) h
+is_text form.Format e t rest h = one_of_text IsFormat formats t rest (inl refl, (inr (inl refl), (inr (inr (inl refl)), (inr (inr (inr refl)), tt)))) h
 is_text form.Length e t rest h = length_text t rest h
 is_text form.Wrapper e t rest h = (rest, h)
 is_text form.Account e t rest h = account_text t rest h

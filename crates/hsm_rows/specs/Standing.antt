@@ -1,5 +1,5 @@
 -- What the texts of a row's fields are, where the row reads a message.
-use Rattle.std.specs.Prelude.{◌≡◌, ℕ, ◌+◌, ◌-◌, ◌%◌, ◌^◌, ◌<◌, ◌≤◌, true, false, List, [], ◌∷◌, ◌++◌, length, take, drop, codes, count_by}
+use Rattle.std.specs.Prelude.{◌≡◌, ◌⊎◌, ℕ, ◌+◌, ◌-◌, ◌%◌, ◌^◌, ◌<◌, ◌≤◌, true, false, List, [], ◌∷◌, ◌++◌, length, take, drop, codes, count_by}
 use Rattle.std.specs.List.{list_all, prefix_len}
 use Rattle.std.specs.Str.{bytes_eq}
 use Rattle.std.specs.Char.{is_ascii_digit, is_ascii_hexdigit}
@@ -22,6 +22,10 @@ AreDigits n t = (length t ≡ n) × (list_all is_ascii_digit t ≡ true)
 -- n hexadecimal digits of either case
 abbrev pub AreHexDigits : ℕ → List ℕ → Type 0
 AreHexDigits n t = (length t ≡ n) × (list_all is_ascii_hexdigit t ≡ true)
+
+-- the code of a format of PIN blocks
+abbrev pub IsFormat : List ℕ → Type 0
+IsFormat t = (t ≡ codes "01") ⊎ ((t ≡ codes "03") ⊎ ((t ≡ codes "05") ⊎ (t ≡ codes "47")))
 
 -- two digits of 04 to 12
 pub record IsLength (t : List ℕ) : Type 0 where
@@ -82,7 +86,7 @@ IsText Type2 e t = StandsBefore Type2 e t
 IsText Flag e t = StandsBefore Flag e t
 IsText Scheme e t = StandsBefore Scheme e t
 IsText WrapScheme e t = StandsBefore WrapScheme e t
-IsText Format e t = length t ≡ 2
+IsText Format e t = IsFormat t
 IsText Length e t = IsLength t
 IsText Wrapper e t = StandsBefore Wrapper e t
 IsText Account e t = IsAccount t

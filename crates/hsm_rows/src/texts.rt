@@ -87,8 +87,8 @@ pub fn decimal_value(text: &[u8]) -> u32
     }
 }
 
-// The value of two decimal digits, else 0.
-pub(crate) fn two_digit_value(text: &[u8]) -> usize
+/// The value of two decimal digits. For a text of another length it is 0.
+pub fn two_digit_value(text: &[u8]) -> usize
     ensures { result ≡ two_digit_value text.now }
 {
     match text {

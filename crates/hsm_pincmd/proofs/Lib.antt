@@ -1,0 +1,2 @@
+pub mod LeftSteps
+pub mod ValidationSteps
