@@ -4,3 +4,4 @@ pub mod PlanSteps
 pub mod Repeats
 pub mod DigitTexts
 pub mod PairLengths
+pub mod ClearAnswers

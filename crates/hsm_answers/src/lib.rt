@@ -1,6 +1,7 @@
 //! What each command of the table asks and answers: the definitions, and the code that the command crates share.
 #![tactic(auto)]
 
+mod clear;
 mod draws;
 mod fields;
 mod keys;
@@ -9,6 +10,7 @@ mod needs;
 mod plans;
 mod texts;
 
+pub use clear::clear_where_granted;
 pub use draws::{draw_key, word};
 pub use fields::{block, digit_values, digits, put_block};
 pub use keys::{
