@@ -58,14 +58,17 @@ found_among P code [] row all found = absurd (cc)
 found_among P code (x ∷ rows) row all found =
     found_here P x (row_with code rows) (bytes_eq code x.code) row all.0 (λ later. found_among P code rows row all.1 later) found
 
-enabled_among : (P : RowShape → Type 0) (code : List ℕ) (rows : List RowShape) (row : RowShape) (disabled : Bool) → AllByRecursion P rows → cond disabled None (row_with code rows) ≡ Some row → P row
-enabled_among P code rows row true all found = absurd (cc)
-enabled_among P code rows row false all found = found_among P code rows row all found
+by_disabled : (P : RowShape → Type 0) (code : List ℕ) (rows : List RowShape) (row : RowShape) (disabled : Bool) → AllByRecursion P rows → cond disabled None (row_with code rows) ≡ Some row → P row
+by_disabled P code rows row true all found = absurd (cc)
+by_disabled P code rows row false all found = found_among P code rows row all found
+
+-- what holds of all rows of a side holds of each that is enabled
+pub enabled_among : (P : RowShape → Type 0) (m : Module) (side : Side) (code : List ℕ) (row : RowShape) → AllByRecursion P (rows_of side) → enabled_row m side code ≡ Some row → P row
+unfolding enabled_row
+enabled_among P m side code row all found = by_disabled P code (rows_of side) row (list_any (bytes_eq code) m.disabled.items) all found
 
 pub is_marked : (m : Module) (side : Side) (code : List ℕ) (row : RowShape) → enabled_row m side code ≡ Some row → has_clear row ≡ true → IsMarked row
-unfolding enabled_row
-is_marked m side code row found marked =
-    (enabled_among MarksOnly code (rows_of side) row (list_any (bytes_eq code) m.disabled.items) (side_marks side) found) marked
+is_marked m side code row found marked = (enabled_among MarksOnly m side code row (side_marks side) found) marked
 
 -- where no check fails, none before the entry does and the needs were covered
 passed_before : (before late : Option ℕ) (refused : Bool) → first_code (before ∷ (if refused then Some 17 else None) ∷ late ∷ []) ≡ None → (before ≡ None) × (refused ≡ false)

@@ -5,3 +5,4 @@ pub mod Repeats
 pub mod DigitTexts
 pub mod PairLengths
 pub mod ClearAnswers
+pub mod Officers

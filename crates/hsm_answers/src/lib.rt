@@ -10,7 +10,7 @@ mod needs;
 mod plans;
 mod texts;
 
-pub use clear::clear_where_granted;
+pub use clear::{clear_where_granted, words_authorise};
 pub use draws::{draw_key, word};
 pub use fields::{block, digit_values, digits, put_block};
 pub use keys::{
