@@ -1,6 +1,7 @@
 //! What each command of the table asks and answers: the definitions, and the code that the command crates share.
 #![tactic(auto)]
 
+mod clear;
 mod draws;
 mod fields;
 mod keys;
@@ -9,6 +10,7 @@ mod needs;
 mod plans;
 mod texts;
 
+pub use clear::{clear_where_granted, words_authorise};
 pub use draws::{draw_fill, draw_key, draw_pin, word};
 pub use fields::{block, characters, compared, digit_values, digits, put_block};
 pub use keys::{

@@ -18,7 +18,7 @@ pub use read::{Fields, read_fields};
 pub use row::{Code, Field, Form, Public, Row, Secret};
 pub use settings::Module;
 pub use table::{ROWS, console_row, row_of, rows};
-pub use texts::{decimal_value, digit, same_text, text_at, token_run};
+pub use texts::{decimal_value, digit, same_text, text_at, token_run, two_digit_value};
 
 #[cfg(test)]
 mod tests;
