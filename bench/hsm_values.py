@@ -302,6 +302,23 @@ def literal(text):
     return f'b"{out}"'
 
 
+def print_groups(groups, names):
+    """Prints groups of messages with their answers as the words say: `cases`, `script` or `output`, then groups."""
+    check_known()
+    what = names.pop(0) if names and names[0] in ("cases", "script", "output") else "cases"
+    for name in names or groups:
+        cases = groups[name]().cases
+        if what == "cases":
+            print(f"# {name}: {len(cases)} messages")
+            for message, answer in cases:
+                print(f"({literal(message)}, {literal(answer)}),")
+        elif what == "script":
+            print("\n".join(line(message) for message, _ in cases))
+        else:
+            print("\n".join(line(answer) for _, answer in cases))
+            print(f"END {len(cases)}")
+
+
 def check_known():
     """Values that stand elsewhere, for these functions themselves."""
     assert check_value(TWO) == "08D7B4"

@@ -13,8 +13,8 @@ crates is used.
 import sys
 
 from hsm_values import (
-    EVEN_ONE, EVEN_TWO, FIRST_AGAIN, LATER_TWICE, ONE, PARTS, THREE, TWICE, TWO, check_known, check_value, drawn, line,
-    literal, opens_even, sealed, wrapped)
+    EVEN_ONE, EVEN_TWO, FIRST_AGAIN, LATER_TWICE, ONE, PARTS, THREE, TWICE, TWO, check_value, drawn, opens_even,
+    print_groups, sealed, wrapped)
 
 
 class Group:
@@ -262,21 +262,5 @@ def draws():
 GROUPS = {"a0": a0, "a6": a6, "a8": a8, "bu": bu, "trailers": trailers, "draws": draws}
 
 
-def main(names):
-    check_known()
-    what = names.pop(0) if names and names[0] in ("cases", "script", "output") else "cases"
-    for name in names or GROUPS:
-        cases = GROUPS[name]().cases
-        if what == "cases":
-            print(f"# {name}: {len(cases)} messages")
-            for message, answer in cases:
-                print(f"({literal(message)}, {literal(answer)}),")
-        elif what == "script":
-            print("\n".join(line(message) for message, _ in cases))
-        else:
-            print("\n".join(line(answer) for _, answer in cases))
-            print(f"END {len(cases)}")
-
-
 if __name__ == "__main__":
-    main(sys.argv[1:])
+    print_groups(GROUPS, sys.argv[1:])
