@@ -462,6 +462,32 @@ class Hsm:  # one method a command
         return [self.seal(code, scheme, key), check_value(key)]
 
 
+class Messages:
+    """Messages in the order of their entries, each with its answer. The error code of each is stated beside it."""
+
+    def __init__(self, lmks=SET_T):
+        self.hsm = Hsm(lmks)
+        self.cases = []
+
+    def add(self, message, code="00", *, trailer=b""):
+        text = message.encode("latin-1") + trailer
+        answer = self.hsm.host(text)
+        assert answer[2:4] == code.encode(), (text, code, answer)
+        self.cases.append((text, answer))
+
+    def refused(self, message, code, *, trailer=b""):
+        self.add(message, code, trailer=trailer)
+
+
+def check_codes(groups, codes):
+    """The groups' messages of each command must give just these codes."""
+    given = {}
+    for group in groups.values():
+        for message, answer in group().cases:
+            given.setdefault(message[:2].decode(), set()).add(answer[2:4].decode())
+    assert given == {code: set(wanted.split()) for code, wanted in codes.items()}, given
+
+
 # Scripts
 
 def read_line(text, hosts):
@@ -477,26 +503,88 @@ def read_line(text, hosts):
     return None
 
 
-def run_script(hsm, script):
-    """The output of a script's bytes and the exit status, or the number of the first line that does not read."""
-    lines = script.decode("latin-1").split("\n")
-    steps = [read_line(text, hsm.hosts) for text in lines]
-    if None in steps:
-        return 1 + steps.index(None)
-    held = {lane: b"" for lane in range(1, hsm.hosts + 1)}  # None is a closed lane.
-    output = []
-    for step in steps:
+class Run:
+    """A script's lines as they are answered: what each line prints, and what stands printed at the end."""
+
+    def __init__(self, hsm):
+        self.hsm = hsm
+        self.held = {lane: b"" for lane in range(1, hsm.hosts + 1)}  # None is a closed lane.
+
+    def step(self, step):
+        """The lines that a line of the script prints."""
+        output = []
         if step[0] == "moment":
-            hsm.moment = step[1]
+            self.hsm.moment = step[1]
         elif step[0] == "console":
-            output.append("C " + hsm.console(step[1]))
-        elif step[0] == "piece" and held[step[1]] is None:
+            output.append("C " + self.hsm.console(step[1]))
+        elif step[0] == "piece" and self.held[step[1]] is None:
             output.append(f"L{step[1]} closed")
         elif step[0] == "piece":
-            held[step[1]] = run_piece(hsm, step[1], held[step[1]] + step[2], output)
-    cut = [f"L{lane} cut" for lane, left in held.items() if left]
-    output += [*cut, f"END {hsm.ledger.number}"]
-    return "".join(text + "\n" for text in output).encode(), 6 if cut or None in held.values() else 0
+            self.held[step[1]] = run_piece(self.hsm, step[1], self.held[step[1]] + step[2], output)
+        return output
+
+    def cut(self):
+        return [lane for lane, left in self.held.items() if left]
+
+    def closed(self):
+        return [lane for lane, left in self.held.items() if left is None]
+
+    def end(self):
+        return [f"L{lane} cut" for lane in self.cut()] + [f"END {self.hsm.ledger.number}"]
+
+
+def run_script(hsm, script):
+    """What a script's bytes print and the exit status, or the number of the first line that does not read."""
+    steps = [read_line(text, hsm.hosts) for text in script.decode("latin-1").split("\n")]
+    if None in steps:
+        return 1 + steps.index(None)
+    run = Run(hsm)
+    output = [printed for step in steps for printed in run.step(step)] + run.end()
+    return "".join(text + "\n" for text in output).encode(), 6 if run.cut() or run.closed() else 0
+
+
+class Lines:
+    """The lines of a script, each with the lines that it prints. The answer of each is stated beside it."""
+
+    def __init__(self, lmks=SET_T):
+        self.run = Run(Hsm(lmks))
+        self.lmks = lmks
+        self.cases = []
+
+    def line(self, text, *wanted):
+        """A line of the script and what it prints."""
+        printed = self.run.step(read_line(text, self.run.hsm.hosts))
+        assert printed == list(wanted), (text, printed, wanted)
+        self.cases.append((text, printed))
+
+    def console(self, text, wanted):
+        self.line("C " + text, "C " + wanted)
+
+    def console_ok(self, text):
+        """A console's text whose fields are computed alone."""
+        printed = self.run.step(read_line("C " + text, 0))
+        assert printed[0].startswith("C OK "), (text, printed)
+        self.cases.append(("C " + text, printed))
+        return printed[0].split()[2:]
+
+    def host(self, message, code="00", *, lane=1, cut=None):
+        """A host's message, its frame cut after so many bytes, and the error code of its answer."""
+        digits = framed(HEADER + message.encode("latin-1"))
+        pieces = [digits[:2 * cut], digits[2 * cut:]] if cut else [digits]
+        for piece in pieces:
+            printed = self.run.step(("piece", lane, bytes.fromhex(piece)))
+            self.cases.append((f"L{lane} {piece}", printed))
+        answer = bytes.fromhex(printed[-1].split()[1])[2 + len(HEADER):]
+        assert answer[2:4] == code.encode(), (message, code, answer)
+        return answer.decode("latin-1")[4:]
+
+    def whole(self):
+        """The script and its output, which the whole run must give too."""
+        script = "".join(text + "\n" for text, _ in self.cases).encode()
+        output = [text for _, printed in self.cases for text in printed] + self.run.end()
+        output = "".join(text + "\n" for text in output).encode()
+        assert run_script(Hsm(self.lmks), script)[0] == output
+        return script, output
 
 
 def run_piece(hsm, lane, left, output):

@@ -163,6 +163,10 @@ def drawn(place, parts):
     return b"".join(key)
 
 
+# Keys of two parts for the cases.
+TERMINAL, ZONE, VERIFICATION, CARD, AUTHENTICATION = (drawn(place, 2) for place in range(1024, 1044, 4))
+
+
 def drawn_pin(place, length):
     """A PIN whose digits are the words from the place on, modulo 10."""
     return "".join(str(word % 10) for word in word_numbers(place, length))
@@ -184,7 +188,9 @@ def pin_block(code, pin, account, fill=""):
     """The clear block of a PIN. Blocks of code 05 and 47 take their fill from left to right."""
     counted = f"{len(pin):X}{pin}"
     nibbles = {"01": "0" + counted, "03": pin, "05": "1" + counted, "47": "3" + counted}[code]
-    block = bytes.fromhex((nibbles + fill[:16 - len(nibbles)]).ljust(16, "F"))
+    if code in ("05", "47"):
+        nibbles += fill[:16 - len(nibbles)]
+    block = bytes.fromhex(nibbles.ljust(16, "F"))
     return exclusive_or(block, account_field(account)) if code in ("01", "47") else block
 
 
