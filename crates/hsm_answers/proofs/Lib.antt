@@ -1,3 +1,4 @@
 pub mod Lengths
 pub mod AnswerSteps
+pub mod PlanSteps
 pub mod Repeats

@@ -14,7 +14,7 @@ pub use keys::{
     scheme_named, type_by_pair, type_of_code, wrapper_type,
 };
 pub use needs::{host_activity, need_by};
-pub use plans::{Checked, first_of, put_code};
+pub use plans::{Checked, empty_ask, first_of, put_code};
 pub use texts::put_key;
 
 #[cfg(test)]
