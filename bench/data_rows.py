@@ -74,12 +74,12 @@ def macs():
     g.add("M600012008" + zak + counted(HELD[:1]), trailer=HELD[:1] + b"end")
     g.add("M600010008" + zak + counted(TEXT[:8] * 25))
     # In parts: the chaining value of one part is given with the next.
-    for fields, algorithm in ("0011", "1"), ("0132", "3"):
+    for fields, algorithm, digits in ("0011", "1", str.upper), ("0132", "3", str.lower):
         first = mac_chain(AUTHENTICATION, algorithm, bytes(8), TEXT[:16])
         second = mac_chain(AUTHENTICATION, algorithm, first, TEXT[16:24])
         g.add(f"M61{fields}008" + zak + counted(TEXT[:16]))
-        g.add(f"M62{fields}008" + zak + first.hex().upper() + counted(TEXT[16:24]))
-        g.add(f"M63{fields}008" + zak + second.hex() + counted(TEXT[24:]))
+        g.add(f"M62{fields}008" + zak + digits(first.hex()) + counted(TEXT[16:24]))
+        g.add(f"M63{fields}008" + zak + digits(second.hex()) + counted(TEXT[24:]))
     # Fields.
     whole = zak + counted(TEXT)
     for text, code in [

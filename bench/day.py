@@ -5,8 +5,8 @@
     bench/day.py output     examples/day.output, what it prints under set T with two host lanes
     bench/day.py table      the day as docs/COMMANDS.md has it
 
-The header is 0001, the seed 32 zero bytes, the officers' words are abc and hello. The answers are those of hsm_model.py.
-It needs the command openssl. Nothing of the crates is used.
+The header is 0001, the seed 32 zero bytes, the officers' words are abc and hello. The answers are those of
+hsm_model.py. It needs the command openssl. Nothing of the crates is used.
 """
 import sys
 
@@ -52,7 +52,7 @@ def day():
     s.host(f"NG{ACCOUNT}{pin}", "17", lane=2)
     assert value == pvv(keys[2], ACCOUNT, "1", clear) and pin == sealed_pin(clear, ACCOUNT)
 
-    remark(s, "Lane 1 translates a terminal's block to the zone, with drawn fill, and verifies it by a frame in two pieces.")
+    remark(s, "Lane 1 translates a terminal's block to the zone, with drawn fill, and verifies it by a cut frame.")
     remark(s, "Then it makes a MAC of a purchase.")
     s.line("T 37260")
     block = enciphered_pin(keys[1], "01", clear, ACCOUNT)

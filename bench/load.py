@@ -72,8 +72,9 @@ def with_offset(messages, key, start, source):
     clear = messages.clear(source)
     validation = [account[1:] + "N" for account in messages.accounts]
     blocks = [validation_block(text, account) for text, account in zip(validation, messages.accounts)]
+    naturals = under(VERIFICATION, blocks)
     for block, clear_block, data, text, natural, pin, account in zip(
-            under(key, clear), clear, blocks, validation, under(VERIFICATION, blocks), messages.pins, messages.accounts):
+            under(key, clear), clear, blocks, validation, naturals, messages.pins, messages.accounts):
         given = offset([TABLE[int(n, 16)] for n in natural.hex()], pin, 4)
         yield (f"{start}12{digits(block)}{source}04{account}{TABLE}{text}{given}", "",
                (block, data, clear_block, natural))
