@@ -8,10 +8,9 @@ import hashlib
 import re
 
 from hsm_values import (
-    HEADER, PARTS, SET_T, TYPES, BlockFault, block_pin, check_value, cvv, decipher, drawn, drawn_fill,
-    drawn_pin, encipher, enciphered_pin, exclusive_or, framed, is_odd, lmk_check, mac_chain, mac_padded, mac_value,
-    natural_pin, odd, offset, parts_of, pvv, repeats_part, sealed, sealed_pin, table_ok, unwrapped, wrapped,
-    wrapping_pair)
+    HEADER, PARTS, SET_T, TYPES, BlockFault, block_pin, check_value, cvv, decipher, drawn, drawn_fill, drawn_pin,
+    enciphered_pin, exclusive_or, framed, is_odd, lmk_check, mac_chain, mac_value, natural_pin, odd, offset, pvv,
+    repeats_part, sealed, sealed_pin, table_ok, unwrapped, wrapped, wrapping_pair)
 
 # The numbers of parts, and the permits to generate, import and export: Y free, A granted, N never.
 LENGTHS = {"000": (2, 3), "402": (2,), "009": (2, 3)}

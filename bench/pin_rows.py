@@ -14,11 +14,14 @@ import sys
 
 from hsm_model import Hsm, Messages, check_codes
 from hsm_values import (
-    EVEN_TWO, ONE, SET_E1, SET_E2, TERMINAL, THREE, TWO, VERIFICATION, ZONE, check_value, encipher, enciphered_pin,
+    EVEN_TWO, ONE, SET_E1, SET_E2, TERMINAL, THREE, TWO, VERIFICATION, ZONE, encipher, enciphered_pin,
     natural_pin, offset, print_groups, pvv, sealed, sealed_pin, selected)
 
 ACCOUNT, OTHER = "123456789012", "400000123456"
-TABLE, DATA = "0123456789012345", "12345678901N"
+TABLE, SEVEN_DIGITS, DATA = "0123456789012345", "0123456012345601", "12345678901N"
+TPK, ZPK, PVK = sealed("002", "U", TERMINAL), sealed("001", "U", ZONE), sealed("002", "U", VERIFICATION)
+PAIR, PIN = sealed("002", "P", VERIFICATION), sealed_pin("1234", ACCOUNT)
+EVEN_TPK, EVEN_ZPK = sealed("002", "U", EVEN_TWO), sealed("001", "U", EVEN_TWO)
 
 
 def block(key, code, pin, account=ACCOUNT, fill="ABCDEFABCD"):
@@ -32,9 +35,8 @@ def raw(key, clear):
 
 def translations():
     g = Messages()
-    tpk, zpk = sealed("002", "U", TERMINAL), sealed("001", "U", ZONE)
 
-    def ca(pin, source, target, most="12", account=ACCOUNT, keys=tpk + zpk, key=TERMINAL):
+    def ca(pin, source, target, most="12", account=ACCOUNT, keys=TPK + ZPK, key=TERMINAL):
         g.add("CA" + keys + most + block(key, source, pin, account) + source + target + account)
 
     # Each pair of formats. The longest PIN leaves two nibbles of fill, the shortest one ten.
@@ -46,25 +48,24 @@ def translations():
     ca("55555", "47", "01", most="05", keys=sealed("002", "Z", ONE) + sealed("001", "T", THREE), key=ONE)
     ca("1234567", "05", "03", keys="Z" + sealed("002", "Z", ONE).lower() + sealed("001", "Z", ONE), key=ONE)
     # CC reads the block under a ZPK.
-    g.add("CC" + zpk + sealed("001", "Z", ONE) + "06" + block(ZONE, "01", "123456") + "0101" + ACCOUNT)
-    g.add("CC" + zpk + zpk + "12" + block(ZONE, "01", "123456") + "0147" + ACCOUNT)
-    g.add("CC" + zpk + zpk + "12" + block(ZONE, "47", "123456") + "4705" + ACCOUNT, trailer=b"\x19end")
+    g.add("CC" + ZPK + sealed("001", "Z", ONE) + "06" + block(ZONE, "01", "123456") + "0101" + ACCOUNT)
+    g.add("CC" + ZPK + ZPK + "12" + block(ZONE, "01", "123456") + "0147" + ACCOUNT)
+    g.add("CC" + ZPK + ZPK + "12" + block(ZONE, "47", "123456") + "4705" + ACCOUNT, trailer=b"\x19end")
     tail = "0101" + ACCOUNT
     good = block(TERMINAL, "01", "1234")
     # Fields.
     g.refused("CA", "15")
-    g.refused("CA" + tpk + zpk + "03" + good + tail, "15")
-    g.refused("CA" + tpk + zpk + "13" + good + tail, "15")
-    g.refused("CA" + tpk + zpk + "12" + good[:-1] + "G" + tail, "15")
-    g.refused("CA" + tpk + zpk + "12" + good + "0201" + ACCOUNT, "23")
-    g.refused("CA" + tpk + zpk + "12" + good + "0104" + ACCOUNT, "23")
-    g.refused("CA" + tpk + zpk + "12" + good + tail + "0", "15")
+    g.refused("CA" + TPK + ZPK + "03" + good + tail, "15")
+    g.refused("CA" + TPK + ZPK + "13" + good + tail, "15")
+    g.refused("CA" + TPK + ZPK + "12" + good[:-1] + "G" + tail, "15")
+    g.refused("CA" + TPK + ZPK + "12" + good + "0201" + ACCOUNT, "23")
+    g.refused("CA" + TPK + ZPK + "12" + good + "0104" + ACCOUNT, "23")
+    g.refused("CA" + TPK + ZPK + "12" + good + tail + "0", "15")
     # Keys: the first one is looked at before the second.
-    even = sealed("001", "U", EVEN_TWO)
-    g.refused("CA" + sealed("002", "U", EVEN_TWO) + even + "12" + good + tail, "10")
-    g.refused("CA" + tpk + even + "04" + block(TERMINAL, "01", "12345") + tail, "11")
-    g.refused("CC" + tpk + zpk + "12" + good + tail, "10")  # a TPK's text
-    g.refused("CC" + zpk + even + "12" + good + tail, "11", trailer=b"\x19end")
+    g.refused("CA" + EVEN_TPK + EVEN_ZPK + "12" + good + tail, "10")
+    g.refused("CA" + TPK + EVEN_ZPK + "04" + block(TERMINAL, "01", "12345") + tail, "11")
+    g.refused("CC" + TPK + ZPK + "12" + good + tail, "10")  # a TPK's text
+    g.refused("CC" + ZPK + EVEN_ZPK + "12" + good + tail, "11", trailer=b"\x19end")
     # Blocks: control, length and body; then the length that is allowed. A refused message draws nothing.
     for clear, source, code in [
             ("041226CBA9876FED", "47", "20"), ("0412340000000000", "05", "20"),
@@ -72,13 +73,13 @@ def translations():
             ("123FFFFFFFFFFFFF", "03", "24"), ("1234567890123456", "03", "24"), ("1234AFFFFFFFFFFF", "03", "20"),
             ("0412A6CBA9876FED", "01", "20"), ("3412263456789012", "47", "20"),
             ("34122A" + "C" * 10, "47", "20")]:
-        g.refused("CA" + tpk + zpk + "12" + raw(TERMINAL, clear) + source + "47" + ACCOUNT, code)
-    g.refused("CA" + tpk + zpk + "12" + good + "0101" + OTHER, "20")
-    g.refused("CA" + tpk + zpk + "11" + block(TERMINAL, "01", "123456789012") + "0147" + ACCOUNT, "24")
-    g.refused("CC" + zpk + zpk + "04" + block(ZONE, "47", "12345") + "4747" + ACCOUNT, "24", trailer=b"\x19end")
-    g.refused("CC" + zpk + zpk + "04" + good + "4747" + ACCOUNT, "20")
-    g.refused("CC" + zpk + zpk + "04" + good + "4700" + ACCOUNT, "23")
-    g.refused("CC" + zpk + zpk + "4", "15")
+        g.refused("CA" + TPK + ZPK + "12" + raw(TERMINAL, clear) + source + "47" + ACCOUNT, code)
+    g.refused("CA" + TPK + ZPK + "12" + good + "0101" + OTHER, "20")
+    g.refused("CA" + TPK + ZPK + "11" + block(TERMINAL, "01", "123456789012") + "0147" + ACCOUNT, "24")
+    g.refused("CC" + ZPK + ZPK + "04" + block(ZONE, "47", "12345") + "4747" + ACCOUNT, "24", trailer=b"\x19end")
+    g.refused("CC" + ZPK + ZPK + "04" + good + "4747" + ACCOUNT, "20")
+    g.refused("CC" + ZPK + ZPK + "04" + good + "4700" + ACCOUNT, "23")
+    g.refused("CC" + ZPK + ZPK + "4", "15")
     ca("1234", "01", "47")
     return g
 
@@ -103,18 +104,19 @@ def pins():
 
 def offsets():
     g = Messages()
-    tpk, zpk, pvk = sealed("002", "U", TERMINAL), sealed("001", "U", ZONE), sealed("002", "U", VERIFICATION)
-    even, pin = sealed("002", "U", EVEN_TWO), sealed_pin("1234", ACCOUNT)
+    add_made_offsets(g)
+    add_terminal_offsets(g)
+    add_zone_offsets(g)
+    return g
 
-    def de(digits, check, account=ACCOUNT, table=TABLE, data=DATA, key=pvk):
+
+def given(digits, check, account=ACCOUNT, table=TABLE, data=DATA, key=VERIFICATION):
+    return offset(natural_pin(key, table, data, account), digits, int(check))
+
+
+def add_made_offsets(g):
+    def de(digits, check, account=ACCOUNT, table=TABLE, data=DATA, key=PVK):
         g.add("DE" + key + sealed_pin(digits, account) + check + account + table + data)
-
-    def given(digits, check, account=ACCOUNT, table=TABLE, data=DATA, key=VERIFICATION):
-        return offset(natural_pin(key, table, data, account), digits, int(check))
-
-    def da(digits, source, most, check, account=ACCOUNT, table=TABLE, data=DATA):
-        g.add("DA" + tpk + pvk + most + block(TERMINAL, source, digits, account) + source + check + account + table
-              + data + given(digits, check, account, table, data))
 
     de("1234", "04", table="0123456701234567")
     de("123456789012", "12")
@@ -123,16 +125,23 @@ def offsets():
     de("0000", "04", data="1N2345678901", key=sealed("002", "T", THREE))
     # Eight different digits, two of them four times. Seven digits; a digit five times.
     de("1234", "04", table="0000111122345677")
-    g.refused("DE" + pvk + pin + "04" + ACCOUNT + "0123456012345601" + DATA, "25")
-    g.refused("DE" + pvk + pin + "04" + ACCOUNT + "0000012345678912" + DATA, "25", trailer=b"\x19end")
+    g.refused("DE" + PVK + PIN + "04" + ACCOUNT + SEVEN_DIGITS + DATA, "25")
+    g.refused("DE" + PVK + PIN + "04" + ACCOUNT + "0000012345678912" + DATA, "25", trailer=b"\x19end")
     # The table is looked at before the PIN, and the PIN before the check length.
-    g.refused("DE" + pvk + pin + "04" + OTHER + "0123456789000000" + DATA, "25")
-    g.refused("DE" + pvk + pin + "12" + OTHER + TABLE + DATA, "14")
-    g.refused("DE" + pvk + pin + "05" + ACCOUNT + TABLE + DATA, "24")
-    g.refused("DE" + even + pin + "04" + ACCOUNT + "0123456012345601" + DATA, "10")
+    g.refused("DE" + PVK + PIN + "04" + OTHER + "0123456789000000" + DATA, "25")
+    g.refused("DE" + PVK + PIN + "12" + OTHER + TABLE + DATA, "14")
+    g.refused("DE" + PVK + PIN + "05" + ACCOUNT + TABLE + DATA, "24")
+    g.refused("DE" + EVEN_TPK + PIN + "04" + ACCOUNT + SEVEN_DIGITS + DATA, "10")
     g.refused("DE", "15")
-    g.refused("DE" + pvk + pin + "03" + ACCOUNT + TABLE + DATA, "15")
-    g.refused("DE" + pvk + pin + "04" + ACCOUNT + TABLE + "123456789012", "15")
+    g.refused("DE" + PVK + PIN + "03" + ACCOUNT + TABLE + DATA, "15")
+    g.refused("DE" + PVK + PIN + "04" + ACCOUNT + TABLE + "123456789012", "15")
+
+
+def add_terminal_offsets(g):
+    def da(digits, source, most, check, account=ACCOUNT, table=TABLE, data=DATA):
+        g.add("DA" + TPK + PVK + most + block(TERMINAL, source, digits, account) + source + check + account + table
+              + data + given(digits, check, account, table, data))
+
     # DA: the PIN as long as the greatest length and as the check length; longer than the check length.
     da("1234", "01", "04", "04")
     da("123456789012", "03", "12", "12", account=OTHER)
@@ -140,15 +149,15 @@ def offsets():
     da("000000", "47", "06", "05", data="abcdefN12345")
     good, tail = block(TERMINAL, "01", "12345"), ACCOUNT + TABLE + DATA
     four, five = given("12345", "04"), given("12345", "05")
-    start = "DA" + tpk + pvk
+    start = "DA" + TPK + PVK
     g.refused(start + "12" + good + "0104" + tail + five, "15")
     g.refused(start + "12" + good + "0105" + tail + four, "15")
     g.refused(start + "12" + good + "0104" + tail + "123AFFFFFFFF", "15")
     g.refused(start + "12" + good + "0104" + tail + four.lower(), "15")
     g.refused(start + "12" + good + "0003" + tail + four, "23")
-    g.refused("DA" + even + even + "12" + good + "0104" + tail + four, "10")
-    g.refused("DA" + tpk + even + "12" + good + "0104" + ACCOUNT + "0123456012345601" + DATA + four, "11")
-    g.refused(start + "12" + raw(TERMINAL, "0" * 16) + "0104" + ACCOUNT + "0123456012345601" + DATA + four, "25")
+    g.refused("DA" + EVEN_TPK + EVEN_TPK + "12" + good + "0104" + tail + four, "10")
+    g.refused("DA" + TPK + EVEN_TPK + "12" + good + "0104" + ACCOUNT + SEVEN_DIGITS + DATA + four, "11")
+    g.refused(start + "12" + raw(TERMINAL, "0" * 16) + "0104" + ACCOUNT + SEVEN_DIGITS + DATA + four, "25")
     g.refused(start + "12" + good + "4704" + tail + four, "20")
     g.refused(start + "12" + raw(TERMINAL, "0312" + "6" * 12) + "0104" + tail + four, "24")
     g.refused(start + "04" + good + "0104" + tail + four, "24")
@@ -156,68 +165,75 @@ def offsets():
     g.refused(start + "12" + block(TERMINAL, "01", "12344") + "0105" + tail + five, "01", trailer=b"\x19end")
     g.add(start + "12" + block(TERMINAL, "01", "12344") + "0104" + tail + four, trailer=b"\x19end")
     g.refused(start + "12" + good + "0104" + tail + str((int(four[0]) + 1) % 10) + four[1:], "01")
-    # EA reads the block under a ZPK.
+
+
+def add_zone_offsets(g):
+    """EA reads the block under a ZPK."""
+    tail, four, five = ACCOUNT + TABLE + DATA, given("12345", "04"), given("12345", "05")
     zone = block(ZONE, "47", "12345")
-    g.add("EA" + zpk + pvk + "05" + zone + "4705" + tail + five)
-    g.refused("EA" + sealed("001", "U", EVEN_TWO) + even + "05" + zone + "4705" + tail + five, "10")
-    g.refused("EA" + zpk + even + "05" + zone + "4705" + tail + five, "11")
-    g.refused("EA" + zpk + pvk + "05" + zone + "4705" + ACCOUNT + "0123456012345601" + DATA + five, "25")
-    g.refused("EA" + zpk + pvk + "05" + zone + "0105" + tail + five, "20")
-    g.refused("EA" + zpk + pvk + "04" + zone + "4704" + tail + four, "24")
-    g.refused("EA" + zpk + pvk + "05" + zone + "4805" + tail + five, "23")
-    g.refused("EA" + zpk + pvk + "05" + zone + "4705" + tail + four, "15")
-    g.refused("EA" + zpk + pvk + "05" + zone + "4704" + tail + "0000FFFFFFFF", "01")
-    return g
+    g.add("EA" + ZPK + PVK + "05" + zone + "4705" + tail + five)
+    g.refused("EA" + EVEN_ZPK + EVEN_TPK + "05" + zone + "4705" + tail + five, "10")
+    g.refused("EA" + ZPK + EVEN_TPK + "05" + zone + "4705" + tail + five, "11")
+    g.refused("EA" + ZPK + PVK + "05" + zone + "4705" + ACCOUNT + SEVEN_DIGITS + DATA + five, "25")
+    g.refused("EA" + ZPK + PVK + "05" + zone + "0105" + tail + five, "20")
+    g.refused("EA" + ZPK + PVK + "04" + zone + "4704" + tail + four, "24")
+    g.refused("EA" + ZPK + PVK + "05" + zone + "4805" + tail + five, "23")
+    g.refused("EA" + ZPK + PVK + "05" + zone + "4705" + tail + four, "15")
+    g.refused("EA" + ZPK + PVK + "05" + zone + "4704" + tail + "0000FFFFFFFF", "01")
 
 
 def pvvs():
     g = Messages()
-    tpk, zpk, pair = sealed("002", "U", TERMINAL), sealed("001", "U", ZONE), sealed("002", "P", VERIFICATION)
-    tagged, even = sealed("002", "U", VERIFICATION), sealed("002", "U", EVEN_TWO)
+    add_made_pvvs(g)
+    add_compared_pvvs(g)
+    return g
 
+
+def add_made_pvvs(g):
     def dg(pair, digits, account, index, trailer=b""):
         g.add("DG" + pair + sealed_pin(digits, account) + account + index, trailer=trailer)
 
+    dg(PAIR, "1234", ACCOUNT, "1")
+    dg(PVK, "123456789012", OTHER, "0", trailer=b"\x19end")
+    dg(sealed("002", "P", TWO).lower(), "98765", OTHER, "9")
+    g.refused("DG" + PAIR + PIN + OTHER + "1", "14")
+    g.refused("DG" + PAIR + "0" * 16 + ACCOUNT + "1", "14", trailer=b"\x19end")
+    g.refused("DG" + EVEN_TPK + "0" * 16 + ACCOUNT + "1", "10")
+    g.refused("DG", "15")
+    g.refused("DG" + sealed("002", "Z", ONE) + PIN + ACCOUNT + "1", "15")
+    g.refused("DG" + PAIR + PIN + ACCOUNT + "F", "15")
+
+
+def add_compared_pvvs(g):
     def value(digits, account=ACCOUNT, index="1"):
         return pvv(VERIFICATION, account, index, digits)
 
-    dg(pair, "1234", ACCOUNT, "1")
-    dg(tagged, "123456789012", OTHER, "0", trailer=b"\x19end")
-    dg(sealed("002", "P", TWO).lower(), "98765", OTHER, "9")
-    pin = sealed_pin("1234", ACCOUNT)
-    g.refused("DG" + pair + pin + OTHER + "1", "14")
-    g.refused("DG" + pair + "0" * 16 + ACCOUNT + "1", "14", trailer=b"\x19end")
-    g.refused("DG" + even + "0" * 16 + ACCOUNT + "1", "10")
-    g.refused("DG", "15")
-    g.refused("DG" + sealed("002", "Z", ONE) + pin + ACCOUNT + "1", "15")
-    g.refused("DG" + pair + pin + ACCOUNT + "F", "15")
     # DC, with a PIN of each format. Only the first four digits of a PIN count.
     for keys, source, digits in [
-            (tpk + pair, "01", "1234"), (tpk + tagged, "03", "123456789012"), (tpk + pair, "05", "12345"),
-            (tpk + pair, "47", "1234")]:
+            (TPK + PAIR, "01", "1234"), (TPK + PVK, "03", "123456789012"), (TPK + PAIR, "05", "12345"),
+            (TPK + PAIR, "47", "1234")]:
         g.add("DC" + keys + block(TERMINAL, source, digits) + source + ACCOUNT + "1" + value("1234"))
-    start, good = "DC" + tpk + pair, block(TERMINAL, "01", "1234")
+    start, good = "DC" + TPK + PAIR, block(TERMINAL, "01", "1234")
     wrong = value("1234")[:3] + str((int(value("1234")[3]) + 1) % 10)
     g.refused(start + good + "01" + ACCOUNT + "1" + wrong, "01", trailer=b"\x19end")
     g.refused(start + good + "01" + ACCOUNT + "2" + value("1234"), "01")
     g.refused(start + good + "01" + OTHER + "1" + value("1234"), "20")
     g.refused(start + raw(TERMINAL, "0312" + "6" * 12) + "01" + ACCOUNT + "1" + wrong, "24")
-    g.refused("DC" + even + even + good + "01" + ACCOUNT + "1" + wrong, "10")
-    g.refused("DC" + tpk + even + raw(TERMINAL, "0" * 16) + "01" + ACCOUNT + "1" + wrong, "11")
+    g.refused("DC" + EVEN_TPK + EVEN_TPK + good + "01" + ACCOUNT + "1" + wrong, "10")
+    g.refused("DC" + TPK + EVEN_TPK + raw(TERMINAL, "0" * 16) + "01" + ACCOUNT + "1" + wrong, "11")
     g.refused(start + good + "00" + ACCOUNT + "1" + wrong, "23")
     g.refused(start + good + "01" + ACCOUNT + "1" + wrong[:3], "15")
     # EC reads the block under a ZPK.
     zone = block(ZONE, "47", "1234", OTHER)
     right = value("1234", OTHER, "3")
-    g.add("EC" + zpk + pair + zone + "47" + OTHER + "3" + right)
-    g.refused("EC" + sealed("001", "U", EVEN_TWO) + even + zone + "47" + OTHER + "3" + right, "10")
-    g.refused("EC" + zpk + even + zone + "47" + OTHER + "3" + right, "11")
-    g.refused("EC" + zpk + pair + zone + "05" + OTHER + "3" + right, "20")
-    g.refused("EC" + zpk + pair + raw(ZONE, "0312" + "6" * 12) + "01" + OTHER + "3" + right, "24")
-    g.refused("EC" + zpk + pair + zone + "4" + OTHER + "3" + right, "23")
-    g.refused("EC" + zpk + pair + zone + "47" + OTHER + "3" + right + "0", "15")
-    g.refused("EC" + zpk + pair + zone + "47" + OTHER + "4" + right, "01", trailer=b"\x19end")
-    return g
+    g.add("EC" + ZPK + PAIR + zone + "47" + OTHER + "3" + right)
+    g.refused("EC" + EVEN_ZPK + EVEN_TPK + zone + "47" + OTHER + "3" + right, "10")
+    g.refused("EC" + ZPK + EVEN_TPK + zone + "47" + OTHER + "3" + right, "11")
+    g.refused("EC" + ZPK + PAIR + zone + "05" + OTHER + "3" + right, "20")
+    g.refused("EC" + ZPK + PAIR + raw(ZONE, "0312" + "6" * 12) + "01" + OTHER + "3" + right, "24")
+    g.refused("EC" + ZPK + PAIR + zone + "4" + OTHER + "3" + right, "23")
+    g.refused("EC" + ZPK + PAIR + zone + "47" + OTHER + "3" + right + "0", "15")
+    g.refused("EC" + ZPK + PAIR + zone + "47" + OTHER + "4" + right, "01", trailer=b"\x19end")
 
 
 def e1():
