@@ -5,8 +5,8 @@
 
 FOLDER gets `mutants.script`, with COUNT messages and texts over two lanes and the console under set T, and
 `mutants.output`. Each is one of those that the other scripts here print, as it stands or with a character changed, put
-in, left out or doubled, cut short, or with a trailer; officers allow and cancel activities between them. With CODEs, only
-messages of these commands are used, and no console texts. What the program prints on the script must be the output:
+in, left out or doubled, cut short, or with a trailer; officers allow and cancel activities between them. With CODEs,
+only messages of these commands are used, and no console texts. What the program prints must be the output:
 
     hsm_tool script .. bench/out/mutants.script | cmp - bench/out/mutants.output
 
