@@ -10,8 +10,8 @@ mod texts;
 
 pub use draws::{draw_key, word};
 pub use keys::{
-    Asked, check_lmk_key, check_wrapped_key, check_wrapping_key, flag_parts, repeats_part,
-    scheme_named, type_by_pair, type_of_code, wrapper_type,
+    Asked, bytes_in, check_lmk_key, check_wrapped_key, check_wrapping_key, flag_parts,
+    repeats_part, scheme_named, type_by_pair, type_of_code, wrapper_type,
 };
 pub use needs::{host_activity, need_by};
 pub use plans::{Checked, empty_ask, first_of, put_code};

@@ -1,0 +1,6 @@
+pub mod RowCases
+pub mod Texts
+pub mod JoinSteps
+pub mod CommandSteps
+pub mod PlanSteps
+pub mod Officers
