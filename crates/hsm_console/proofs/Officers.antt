@@ -15,8 +15,8 @@ use Rattle.hsm_rows.specs.Table.{RowShape, IsConsoleRow, row_A, row_C, row_VA, r
 use Rattle.hsm_rows.specs.Rules.{RowRules, authorise_ask, rules_of, console_rules, rules_A, rules_C, rules_VA, rules_Q, rules_LOG, rules_GC, rules_FK}
 use Rattle.hsm_rows.specs.Forms.{decimal_from}
 use Rattle.hsm_rows.specs.Reading.{reading, ReadText}
-use Rattle.hsm_answers.specs.Keys.{field_text, keys_fault}
-use Rattle.hsm_answers.specs.Checks.{check_before, permit_fault, parts_fault}
+use Rattle.hsm_answers.specs.Keys.{field_text}
+use Rattle.hsm_answers.specs.Checks.{check_before}
 use Rattle.hsm_answers.specs.Asks.{ask_of, ask_read, row_ask, empty_ask, authorise, cancel, words_hold, are_digests}
 use Rattle.hsm_console.specs.Plans.{IsAuthorised}
 use Rattle.hsm_console.proofs.RowCases.{each}

@@ -1,6 +1,6 @@
 -- What a plan keeps of a console text, and the answer that follows from it.
-use Rattle.std.proofs.Common.{◌≡◌, ℕ, Bool, true, false, List, [], ◌∷◌, ◌++◌, refl, sym, ap, ◌∙◌, subst}
-use Rattle.std.specs.Prelude.{Option, Some, None, Result, Ok, Err, if◌then◌else◌, codes, flat_map}
+use Rattle.std.proofs.Common.{◌≡◌, ℕ, Bool, true, false, List, [], ◌∷◌, refl, sym, ap, ◌∙◌, subst}
+use Rattle.std.specs.Prelude.{Option, Some, None, Result, Ok, Err, if◌then◌else◌, codes}
 use Rattle.std.specs.Option.{option_map}
 use Rattle.hsm_auth.specs.declared.entry.Granted.{Granted}
 use Rattle.hsm_rows.specs.declared.settings.Module.{Module}
@@ -16,7 +16,6 @@ use Rattle.hsm_answers.specs.Checks.{check_before, check_after, check_read, entr
 use Rattle.hsm_answers.specs.Values.{values}
 use Rattle.hsm_answers.specs.Answers.{answer, host_answer, console_answer, console_body, no_code}
 use Rattle.hsm_answers.specs.Plans.{IsChecked, fault_at, number_of}
-use Rattle.hsm_console.specs.Fields.{spaced_values}
 use Rattle.hsm_console.specs.Commands.{words_refused, refuses_words}
 use Rattle.hsm_console.specs.Plans.{AreValues, console_text, text_after, good_text}
 

@@ -1,6 +1,6 @@
 -- Texts of keys, and fields after spaces.
-use Rattle.std.proofs.Common.{◌≡◌, ℕ, zero, suc, ◌+◌, ◌<◌, ◌≤◌, ◌^◌, ◌/◌, ◌%◌, Bool, true, false, List, [], ◌∷◌, ◌++◌, length, drop, map, Some, refl, sym, ap, ◌∙◌, arith, cond, append_assoc, append-nil, add-one}
-use Rattle.std.specs.Prelude.{codes, filter, slice_get}
+use Rattle.std.proofs.Common.{◌≡◌, ℕ, zero, suc, ◌+◌, ◌<◌, ◌≤◌, ◌^◌, ◌/◌, ◌%◌, false, List, [], ◌∷◌, ◌++◌, length, drop, map, Some, refl, sym, ap, ◌∙◌, arith, append_assoc, append-nil, add-one}
+use Rattle.std.specs.Prelude.{codes, slice_get}
 use Rattle.std.specs.Fmt.{decimal}
 use Rattle.std.proofs.lemmas.List.{length-map}
 use Rattle.std.proofs.lemmas.Fmt.{decimal_nonempty}
@@ -16,7 +16,6 @@ use Rattle.hsm_rows.specs.Reading.{is_end}
 use Rattle.hsm_answers.specs.Keys.{key_text}
 use Rattle.hsm_answers.specs.Draws.{drawn_key}
 use Rattle.hsm_answers.specs.Values.{counted, spaced}
-use Rattle.hsm_answers.specs.Answers.{is_present}
 use Rattle.hsm_console.specs.declared.fields.Sealing.{Sealing}
 use Rattle.hsm_console.specs.Fields.{clear_text, sealed_values, spaced_values}
 

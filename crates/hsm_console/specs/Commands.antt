@@ -1,6 +1,5 @@
 -- The console rows as commands.
-use Rattle.std.specs.Prelude.{◌≡◌, ℕ, Bool, true, false, not, ◌&&◌, List, Result, Ok, Err}
-use Rattle.hsm_types.specs.declared.types.Scheme.{Scheme}
+use Rattle.std.specs.Prelude.{Bool, false, not, ◌&&◌, Result, Ok, Err}
 use Rattle.hsm_lmk.specs.Sealing.{wrap}
 use Rattle.hsm_rows.specs.declared.settings.Module.{Module}
 use Rattle.hsm_rows.specs.declared.row.Code.{Code}

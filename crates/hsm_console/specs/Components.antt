@@ -7,7 +7,6 @@ use Rattle.hsm_types.specs.declared.types.Scheme.{Scheme}
 use Rattle.hsm_types.specs.Schemes.{scheme_parts}
 use Rattle.hsm_parity.specs.Parity.{adjusted}
 use Rattle.hsm_nibbles.specs.Characters.{bytes_of_hex}
-use Rattle.hsm_auth.specs.declared.entry.Needs.{Needs}
 use Rattle.hsm_auth.specs.declared.entry.Ask.{Ask}
 use Rattle.hsm_auth.specs.declared.entry.Ask.TheVariants as ask
 use Rattle.hsm_auth.specs.declared.activity.Category.TheVariants as category

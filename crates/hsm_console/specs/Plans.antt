@@ -1,5 +1,5 @@
 -- Plans of console texts, and their answers.
-use Rattle.std.specs.Prelude.{◌≡◌, ℕ, Bool, true, if◌then◌else◌, List, [], ◌++◌, flat_map, Option, Some, None, Result, Ok, Err, codes, slice_index_or}
+use Rattle.std.specs.Prelude.{◌≡◌, ℕ, Bool, if◌then◌else◌, List, [], ◌++◌, flat_map, Option, Some, None, Result, Ok, Err, codes, slice_index_or}
 use Rattle.sha2.specs.Sha256.{sha256}
 use Rattle.hsm_auth.specs.declared.activity.Activity.{Activity}
 use Rattle.hsm_auth.specs.declared.entry.Ask.{Ask}

@@ -11,3 +11,6 @@ mod lists;
 mod plan;
 
 pub use plan::{ConsolePlan, finish, prepare};
+
+#[cfg(test)]
+mod tests;

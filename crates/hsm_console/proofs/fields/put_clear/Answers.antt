@@ -1,4 +1,4 @@
-use Rattle.std.proofs.Common.{◌≡◌, ℕ, List, ◌+◌, ◌++◌, length, drop, ap, sym, ◌∙◌, arith, append_assoc, length-append}
+use Rattle.std.proofs.Common.{ℕ, List, ◌+◌, ◌++◌, length, drop, ap, sym, ◌∙◌, arith, append_assoc, length-append}
 use Rattle.hsm_nibbles.specs.Characters.{hex_of_bytes}
 use Rattle.hsm_answers.proofs.Lengths.{hex_length}
 use Rattle.hsm_console.specs.Fields.{clear_text}

@@ -28,8 +28,8 @@ returns-in-Drawn c =
     let P : ConsoleFields → Type 0 = λ f. c.put_sealed.new.reply ≡ old ++ spaced_values (made_values m f g) in
     let same = c.draw_key-key.ensures.key ∙ ap₂ (drawn_key m) c.first_of.ensures c.scheme_parts.ensures.parts in
     let all : c.put_sealed.new.reply ≡ ((old ++ 32 ∷ []) ++ clear_text c.draw_key-key.result) ++ spaced_values (sealed_values s c.draw_key-key.result) =
-        c.put_sealed.ensures ∙ ap (λ (x : List ℕ). x ++ spaced_values (sealed_values s c.draw_key-key.result))
-        (c.put_clear.ensures.text ∙ ap (λ (x : List ℕ). x ++ clear_text c.draw_key-key.result) c.put.ensures) in
+    c.put_sealed.ensures ∙ ap (λ (x : List ℕ). x ++ spaced_values (sealed_values s c.draw_key-key.result))
+    (c.put_clear.ensures.text ∙ ap (λ (x : List ℕ). x ++ clear_text c.draw_key-key.result) c.put.ensures) in
     let key = drawn_at m s g in
     let moved : ((old ++ 32 ∷ []) ++ clear_text key) ++ spaced_values (sealed_values s key) ≡ old ++ (32 ∷ (clear_text key ++ spaced_values (sealed_values s key))) = simp append_assoc in
     subst P (sym c.in-Drawn.is)

@@ -1,4 +1,4 @@
-use Rattle.std.proofs.Common.{◌≡◌, ℕ, List, [], ◌∷◌, ap, ap₂, sym, ◌∙◌, arith}
+use Rattle.std.proofs.Common.{◌≡◌, ℕ, List, [], ◌∷◌, ap, ap₂, ◌∙◌, arith}
 use Rattle.hsm_types.specs.Schemes.{scheme_parts}
 use Rattle.hsm_parity.specs.Parity.{adjusted}
 use Rattle.hsm_answers.specs.Values.{parts_of_bytes}

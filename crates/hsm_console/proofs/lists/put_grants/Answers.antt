@@ -1,4 +1,4 @@
-use Rattle.std.proofs.Common.{◌≡◌, ℕ, List, [], ◌∷◌, ◌++◌, ap, ◌∙◌, arith, map}
+use Rattle.std.proofs.Common.{List, [], ◌∷◌, ◌++◌, ap, ◌∙◌, arith, map}
 use Rattle.hsm_auth.specs.declared.entry.Grant.{Grant}
 use Rattle.hsm_answers.specs.Values.{grant_text, counted}
 use Rattle.hsm_console.specs.Fields.{spaced_values}

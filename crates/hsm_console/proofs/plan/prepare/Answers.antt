@@ -1,4 +1,4 @@
-use Rattle.std.proofs.Common.{◌≡◌, ℕ, List, sym, ◌∙◌, refl, ap, subst, Some, None, Ok}
+use Rattle.std.proofs.Common.{ℕ, List, sym, ◌∙◌, ap, subst, Some, None}
 use Rattle.std.specs.Prelude.{[]}
 use Rattle.hsm_auth.specs.declared.entry.Ask.{Ask}
 use Rattle.hsm_auth.specs.declared.entry.Granted.{Granted}
