@@ -2,8 +2,10 @@ use Rattle.std.proofs.Common.{◌≡◌, ◌++◌, List, ℕ, length, sym, ap, �
 use Rattle.hsm_answers.specs.Answers.{answer}
 use Rattle.hsm_answers.specs.Messages.{unknown_answer, command_of, header_of}
 use Rattle.hsm_keycmd.specs.Plans as key
+use Rattle.hsm_datacmd.specs.Plans as held
+use Rattle.hsm_console.specs.Plans as officers
 use Rattle.hsm_session.specs.Plans.{planned_row, planned_text, side_of, plan_kind}
-use Rattle.hsm_session.proofs.PlanLaws.{unknown_answer_is, planned_answer_is}
+use Rattle.hsm_session.proofs.PlanLaws.{unknown_answer_is, planned_answer_is, room_is}
 use Rattle.hsm_session.proofs.plans.finish.Goals as goal
 
 pub put_unknown-requires-clause-room : goal.put_unknown-requires-clause-room
@@ -37,3 +39,43 @@ returns-in-Key c =
     ∙ ap (λ (old : List ℕ). old ++ answer m row text c.args.granted.now)
     (c.put.ensures ∙ ap (λ (old : List ℕ). old ++ c.header_of-header.result.now) c.clear.ensures ∙ c.header_of-header.ensures.header)
     ∙ sym (planned_answer_is m side message c.args.granted.now row text plan.planned c.requires.plan.planned (ap planned_row c.in-Key.is) (ap planned_text c.in-Key.is))
+
+pub returns-in-Data : goal.returns-in-Data
+returns-in-Data c =
+    let m = c.args.module.now in
+    let plan = c.args.plan.now in
+    let message = plan.message.now in
+    let side = side_of (plan_kind plan) in
+    let row = held.plan_row c.in-Data.plan in
+    let text = held.plan_text c.in-Data.plan in
+    c.finish-in-Data.ensures
+    ∙ ap (λ (old : List ℕ). old ++ answer m row text c.args.granted.now)
+    (c.put.ensures ∙ ap (λ (old : List ℕ). old ++ c.header_of-header.result.now) c.clear.ensures ∙ c.header_of-header.ensures.header)
+    ∙ sym (planned_answer_is m side message c.args.granted.now row text plan.planned c.requires.plan.planned (ap planned_row c.in-Data.is) (ap planned_text c.in-Data.is))
+
+pub returns-in-Console : goal.returns-in-Console
+returns-in-Console c =
+    let m = c.args.module.now in
+    let plan = c.args.plan.now in
+    let message = plan.message.now in
+    let side = side_of (plan_kind plan) in
+    let row = officers.plan_row c.in-Console.plan in
+    let text = officers.plan_text c.in-Console.plan in
+    c.finish-in-Console.ensures
+    ∙ ap (λ (old : List ℕ). old ++ answer m row text c.args.granted.now)
+    (c.put.ensures ∙ ap (λ (old : List ℕ). old ++ c.header_of-header.result.now) c.clear.ensures ∙ c.header_of-header.ensures.header)
+    ∙ sym (planned_answer_is m side message c.args.granted.now row text plan.planned c.requires.plan.planned (ap planned_row c.in-Console.is) (ap planned_text c.in-Console.is))
+
+pub finish-requires-in-Data-clause-room : goal.finish-requires-in-Data-clause-room
+finish-requires-in-Data-clause-room c =
+    let m = c.args.module.now in
+    let plan = c.args.plan.now in
+    let planned = c.requires.plan.planned in
+    let row = held.plan_row c.in-Data.plan in
+    let found = sym planned.row ∙ ap planned_row c.in-Data.is in
+    omega (
+      arith,
+      room_is m plan.kind plan.message.now row c.requires.plan.least c.requires.plan.most found,
+      ap length (c.put.ensures ∙ ap (λ (old : List ℕ). old ++ c.header_of-header.result.now) c.clear.ensures ∙ c.header_of-header.ensures.header),
+      ap length (sym (ap planned_text c.in-Data.is) ∙ planned.text row (ap planned_row c.in-Data.is)),
+    )
