@@ -1,5 +1,5 @@
 -- What is left to do at the entry of a message: its words, and its reply fields with the words from a place on.
-use Rattle.std.specs.Prelude.{◌≡◌, ℕ, ◌≤◌, true, List, [], ◌++◌, length, codes, Option, Some, None}
+use Rattle.std.specs.Prelude.{◌≡◌, ℕ, ◌≤◌, true, List, [], ◌++◌, length, codes, Option, Some, None, Result, Ok, Err}
 use Rattle.std.specs.List.{list_all}
 use Rattle.hsm_types.specs.Pins.{is_decimal}
 use Rattle.hsm_tdes.specs.Tdes.{enciphered}
@@ -67,3 +67,8 @@ CanFinish (Draw count account) = CanDraw count account
 abbrev pub left_after : Option Code → Left → Left
 left_after None left = left
 left_after (Some code) left = Nothing
+
+-- what is left where the checks after the entry found this
+abbrev pub left_found : Result Left Code → Left
+left_found (Ok left) = left
+left_found (Err code) = Nothing

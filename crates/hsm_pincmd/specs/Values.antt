@@ -1,14 +1,14 @@
 -- Keys and PINs of the PIN commands, and what is wrong with them.
-use Rattle.std.specs.Prelude.{ℕ, Bool, false, nat_lt, if◌then◌else◌, List, length, map, flat_map, Option, Some, None, is_some}
+use Rattle.std.specs.Prelude.{ℕ, false, nat_lt, if◌then◌else◌, List, length, map, take_while, Option, Some, None, is_some}
+use Rattle.std.specs.Char.{is_ascii_digit}
 use Rattle.hsm_types.specs.declared.types.KeyType.{KeyType}
-use Rattle.hsm_types.specs.declared.types.KeyType.TheVariants.{Tpk}
 use Rattle.hsm_lmk.specs.Sealing.{wrap}
 use Rattle.hsm_tdes.specs.Tdes.{deciphered}
 use Rattle.hsm_pinblock.specs.declared.Format.{Format}
 use Rattle.hsm_pinblock.specs.declared.Format.TheVariants.{F01}
 use Rattle.hsm_pinblock.specs.Faults.{blockfault, pin_of_block, opened_block}
 use Rattle.hsm_verify.specs.Values.{table_ok, natural_pin, offset, pvv}
-use Rattle.hsm_nibbles.specs.Characters.{hex_character}
+use Rattle.hsm_nibbles.specs.Characters.{hex_character, digit_value}
 use Rattle.hsm_rows.specs.Rules.{lmk}
 use Rattle.hsm_answers.specs.declared.keys.Asked.{Asked}
 use Rattle.hsm_answers.specs.Keys.{key_of, opened_key, key_data_fault}
@@ -54,6 +54,14 @@ sealed_fault set text account = if is_some (blockfault F01 (opened_block set tex
 -- the PIN of a text under the LMK
 abbrev pub opened_pin : List (List (List ℕ)) → ℕ → List ℕ → List ℕ
 opened_pin set text account = pin_of_block F01 (opened_block set text) account
+
+-- the digits at the front of a clear PIN's text
+abbrev pub clear_digits : List ℕ → List ℕ
+clear_digits text = map digit_value (take_while is_ascii_digit text)
+
+-- 24 where they are fewer than 4
+abbrev pub clear_fault : List ℕ → Option ℕ
+clear_fault text = if nat_lt (length (clear_digits text)) 4 then Some 24 else None
 
 -- the offset of a PIN as it is written: of its first digits, so many as `check` says, under the key, the decimalisation table and the validation data
 abbrev pub offset_text : List (List ℕ) → List ℕ → List ℕ → List ℕ → List ℕ → ℕ → List ℕ

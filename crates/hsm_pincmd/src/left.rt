@@ -33,11 +33,17 @@ pub(crate) enum Left {
     // The characters of a PVV.
     Pvv([u8; 4]),
     // The PIN is sealed under the LMK.
-    Seal { pin: Pin, account: [u8; 12] },
+    Seal {
+        pin: Pin,
+        account: [u8; 12],
+    },
     // The PIN is shown.
     Show(Pin),
     // A PIN of so many digits is drawn, and sealed under the LMK.
-    Draw { count: usize, account: [u8; 12] },
+    Draw {
+        count: usize,
+        account: [u8; 12],
+    },
 }
 
 fn format_code(format: Format) -> [u8; 2]
@@ -76,13 +82,7 @@ pub(crate) fn words_of(left: &Left) -> u16
 }
 
 // The block of the PIN in the format, its fill drawn from the place on.
-fn block_drawn(
-    module: &Module,
-    format: Format,
-    pin: &Pin,
-    account: &[u8; 12],
-    place: u64,
-) -> u64
+fn block_drawn(module: &Module, format: Format, pin: &Pin, account: &[u8; 12], place: u64) -> u64
     requires account { IsTrue (list_all is_decimal account.now) }
     requires place { place < 2 ^ 63 }
     ensures { result ≡ block_drawn «module».now format pin.now account.now place }

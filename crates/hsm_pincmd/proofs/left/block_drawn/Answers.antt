@@ -1,4 +1,4 @@
-use Rattle.std.proofs.Common.{◌∙◌, ap, ◌-◌, ◌++◌, replicate, ℕ, List}
+use Rattle.std.proofs.Common.{◌∙◌, ap, ◌-◌, ◌++◌, replicate, ℕ}
 use Rattle.hsm_pinblock.specs.Blocks.{block_of_pin}
 use Rattle.hsm_answers.specs.Draws.{drawn_fill}
 use Rattle.hsm_answers.specs.Pins.{fill_length}

@@ -1,4 +1,4 @@
-use Rattle.std.proofs.Common.{◌≡◌, ◌∙◌, ap, ap₂, ◌-◌, ◌++◌, ◌∷◌, [], replicate, ℕ, List, length, drop, map, arith, subst, sym}
+use Rattle.std.proofs.Common.{◌≡◌, ◌∙◌, ap, ap₂, ◌-◌, ◌++◌, replicate, ℕ, List, length, drop, map, arith, subst, sym}
 use Rattle.std.specs.Int.Digits.{AllBelowBase}
 use Rattle.hsm_nibbles.specs.Characters.{hex_character}
 use Rattle.hsm_pincmd.proofs.LeftSteps.{rest_of_twelve, twelve_below}
