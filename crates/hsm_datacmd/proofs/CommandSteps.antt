@@ -124,7 +124,8 @@ made_text true true m bytes g v mac chain a b c d = ap (λ (x : List ℕ). mac +
 made_text true false m bytes g v mac chain a b c d = ap (λ (x : List ℕ). mac ++ (x ++ [])) (sym (b refl)) ∙ append-nil mac ∙ sym (a refl)
 made_text false half m bytes g v mac chain a b c d = ap (λ (x : List ℕ). x ++ (chain ++ [])) (sym (c refl)) ∙ append-nil chain ∙ sym (d refl)
 
-verified_text : (ends : Bool) (m : Module) (bytes : List ℕ) (g : Granted) (v : ℕ) (chain : List ℕ) → (ends ≡ true → [] ≡ chain) → (ends ≡ false → block_text v ≡ chain)
+verified_text : (ends : Bool) (m : Module) (bytes : List ℕ) (g : Granted) (v : ℕ) (chain : List ℕ) → (ends ≡ true → [] ≡ chain)
+    → (ends ≡ false → block_text v ≡ chain)
     → chain ++ [] ≡ written_text m bytes (if ends then Empty else Block v) g
 verified_text true m bytes g v chain b d = append-nil chain ∙ sym (b refl)
 verified_text false m bytes g v chain b d = append-nil chain ∙ sym (d refl)
@@ -136,10 +137,12 @@ unfolding row_CW row_CY row_M6 row_M8 row_B2 row_NC row_NO row_RA rules_CW rules
 fields_are m r g Cw texts = append-nil (row_value m rules_CW r (cvv_of 0 1 2 3))
 fields_are m r g Cy texts = refl
 fields_are m r g M6 texts =
-    made_text (ends_by (field_text r 0)) (bytes_eq (field_text r 2) (codes "0")) m (field_text r 1) g (data_value m rules_M6 r) (row_value m rules_M6 r (mac_of mac_fields)) (chain_value m rules_M6 r (mac_of mac_fields))
+    made_text (ends_by (field_text r 0)) (bytes_eq (field_text r 2) (codes "0")) m (field_text r 1) g (data_value m rules_M6 r)
+    (row_value m rules_M6 r (mac_of mac_fields)) (chain_value m rules_M6 r (mac_of mac_fields))
     (mac_written m rules_M6 r (texts_M6 r texts)) (no_chain m rules_M6 r) (no_mac m rules_M6 r) (chain_written m rules_M6 r)
 fields_are m r g M8 texts =
-    verified_text (ends_by (field_text r 0)) m (field_text r 1) g (data_value m rules_M8 r) (chain_value m rules_M8 r (mac_of mac_fields)) (no_chain m rules_M8 r) (chain_written m rules_M8 r)
+    verified_text (ends_by (field_text r 0)) m (field_text r 1) g (data_value m rules_M8 r) (chain_value m rules_M8 r (mac_of mac_fields))
+    (no_chain m rules_M8 r) (chain_written m rules_M8 r)
 fields_are m r g B2 texts = append-nil (field_text r 1)
 fields_are m r g Nc texts = refl
 fields_are m r g No texts = refl
@@ -168,7 +171,8 @@ module _ (m : Module) (row : RowShape) (command : Command) (same : row ≡ row_b
   texts_are texts = subst (λ (d : RowShape). AreTexts d.fields r.texts) same texts
 
   -- its reply fields
-  pub text_is : (g : Granted) (bytes : List ℕ) (fields : DataFields) → AreTexts row.fields r.texts → bytes ≡ field_text r 1 → fields ≡ fields_by command m r
+  pub text_is : (g : Granted) (bytes : List ℕ) (fields : DataFields) → AreTexts row.fields r.texts → bytes ≡ field_text r 1
+      → fields ≡ fields_by command m r
       → fields_text m (rules_of row) row g r ≡ written_text m bytes fields g
   text_is g bytes fields texts e h =
       ap (λ (x : RowRules). fields_text m x row g r) rules_same

@@ -29,5 +29,6 @@ pairs_are i (a ∷ b ∷ rest) h even =
     ∙ ap (cons_byte (digit_value a * 16 + digit_value b)) (pairs_are (i + 2) rest second.1 left)
 
 -- an even number of digits decodes to the bytes that they name
-pub decodes : (text : List ℕ) → list_all is_ascii_hexdigit text ≡ true → length text % 2 ≡ 0 → decode_sized text (length text / 2) ≡ Ok (bytes_of_hex text)
+pub decodes : (text : List ℕ) → list_all is_ascii_hexdigit text ≡ true → length text % 2 ≡ 0
+    → decode_sized text (length text / 2) ≡ Ok (bytes_of_hex text)
 decodes text h even = decode_sized-pairs text (length text / 2) even refl ∙ pairs_are 0 text h even

@@ -15,7 +15,8 @@ use Rattle.hsm_answers.specs.Given.{code_in}
 use Rattle.hsm_answers.proofs.Lengths.{opened_length}
 use Rattle.hsm_datacmd.specs.Macs.{mac_key_asked}
 
-no_fault : (scheme long odd : Bool) (parity : ℕ) → None ≡ (if scheme then Some 26 else if long then Some 27 else if odd then None else Some parity) → long ≡ false
+no_fault : (scheme long odd : Bool) (parity : ℕ)
+    → None ≡ (if scheme then Some 26 else if long then Some 27 else if odd then None else Some parity) → long ≡ false
 no_fault true long odd parity h = absurd (cc)
 no_fault false true odd parity h = absurd (cc)
 no_fault false false odd parity h = refl
@@ -26,24 +27,28 @@ no_difference true false differ h = h
 no_difference false wraps differ h = absurd (cc)
 
 -- it has as many parts as a rule asks for
-pub rule_holds : (w : List (List ℕ)) (a : Asked) (k : Option KeyData) → None ≡ key_data_fault (Some w) lmk a k → differs a.by_rule (length (opened_key w k)) ≡ false
+pub rule_holds : (w : List (List ℕ)) (a : Asked) (k : Option KeyData) → None ≡ key_data_fault (Some w) lmk a k
+    → differs a.by_rule (length (opened_key w k)) ≡ false
 unfolding key_data_fault
 rule_holds w a None h = absurd (cc)
 rule_holds w a (Some k) h =
     ap (differs a.by_rule) (opened_length w k.scheme k.bytes)
-    ∙ no_difference _ _ _ (no_fault (scheme_fault lmk a k.scheme) (length_fault a (scheme_parts k.scheme)) (all_odd (opened w k.scheme k.bytes)) a.parity.0 h)
+    ∙ no_difference _ _ _
+    (no_fault (scheme_fault lmk a k.scheme) (length_fault a (scheme_parts k.scheme)) (all_odd (opened w k.scheme k.bytes)) a.parity.0 h)
 
 not_different : (b : Bool) → not b ≡ false → b ≡ true
 not_different true h = refl
 not_different false h = absurd (cc)
 
 -- the algorithm takes it
-pub takes : (w : List (List ℕ)) (alg : Alg) (ty : KeyType) (k : Option KeyData) → None ≡ key_data_fault (Some w) lmk (mac_key_asked alg ty) k → takes_key alg (opened_key w k) ≡ true
+pub takes : (w : List (List ℕ)) (alg : Alg) (ty : KeyType) (k : Option KeyData) → None ≡ key_data_fault (Some w) lmk (mac_key_asked alg ty) k
+    → takes_key alg (opened_key w k) ≡ true
 takes w One ty k h = refl
 takes w Three ty k h = not_different (length (opened_key w k) == 2) (rule_holds w (mac_key_asked Three ty) k h)
 
 -- the same of what a check answers
-pub taken : (w : List (List ℕ)) (alg : Alg) (ty : KeyType) (k : Option KeyData) (result : Result (List (List ℕ)) Code) → code_in result ≡ key_data_fault (Some w) lmk (mac_key_asked alg ty) k
+pub taken : (w : List (List ℕ)) (alg : Alg) (ty : KeyType) (k : Option KeyData) (result : Result (List (List ℕ)) Code)
+    → code_in result ≡ key_data_fault (Some w) lmk (mac_key_asked alg ty) k
     → IfOk result (λ key. key ≡ opened_key w k) → IfOk result (λ key. takes_key alg key ≡ true)
 taken w alg ty k (Ok key) fault same = subst (λ (x : List (List ℕ)). takes_key alg x ≡ true) (sym same) (takes w alg ty k fault)
 taken w alg ty k (Err code) fault same = tt

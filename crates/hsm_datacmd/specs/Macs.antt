@@ -24,10 +24,10 @@ use Rattle.hsm_datacmd.specs.declared.mac.MacAsked.{MacAsked}
 
 -- The texts of a message that its mode and its input format speak of: no chaining value is given with a whole message.
 pub record AreMacTexts (r : ReadText) : Type 0 where
-  pub whole : is_only r mac_fields ≡ true → field_text r 7 ≡ []
-  pub chain : is_end (field_text r 7) ≡ false → AreHexDigits 16 (field_text r 7)
+  pub whole : is_only r mac_fields ≡ true → field_text r mac_fields.chain ≡ []
+  pub chain : is_end (field_text r mac_fields.chain) ≡ false → AreHexDigits 16 (field_text r mac_fields.chain)
   pub count : hex_value (field_text r 8) < 2 ^ 16
-  pub bytes : IsData (field_text r 1) (field_text r 9) (hex_value (field_text r 8))
+  pub bytes : IsData (field_text r mac_fields.input) (field_text r mac_fields.message) (hex_value (field_text r 8))
 
 -- the chaining value that is given, else 0
 abbrev pub start_by : List ℕ → ℕ
@@ -56,9 +56,9 @@ padding_by text =
 -- what a message asks of its data
 abbrev pub mac_asked : ReadText → MacAsked
 mac_asked r = record {
-  part = part_by (field_text r 0) (start_by (field_text r 7));
-  alg = algorithm_by (field_text r 3);
-  pad = padding_by (field_text r 4);
+  part = part_by (field_text r mac_fields.mode) (start_by (field_text r mac_fields.chain));
+  alg = algorithm_by (field_text r mac_fields.algorithm);
+  pad = padding_by (field_text r mac_fields.padding);
 }
 
 -- the number of parts that an algorithm asks for
@@ -88,4 +88,4 @@ value_under key r = part_value key (mac_asked r).alg (mac_asked r).pad (mac_data
 
 -- the value of the message's data
 abbrev pub data_value : Module → RowRules → ReadText → ℕ
-data_value m rules r = value_under (lmk_key m rules r 6) r
+data_value m rules r = value_under (lmk_key m rules r mac_fields.key) r

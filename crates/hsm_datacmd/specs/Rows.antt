@@ -20,7 +20,7 @@ mac_fields_of half mac = if half then HalfMac mac else Block mac
 -- M6: the MAC where the data ends its message, else the chaining value
 abbrev pub fields_M6 : Module → ReadText → DataFields
 fields_M6 m r =
-    if ends_message r mac_fields then mac_fields_of (is_digit_at r 2 (codes "0")) (data_value m rules_M6 r)
+    if ends_message r mac_fields then mac_fields_of (is_digit_at r mac_fields.size (codes "0")) (data_value m rules_M6 r)
     else Block (data_value m rules_M6 r)
 
 -- M8: the chaining value where the data doesn't end its message

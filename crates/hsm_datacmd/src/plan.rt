@@ -9,12 +9,12 @@ ghost use Rattle.hsm_datacmd.specs.Commands.{IsDataRow};
 ghost use Rattle.hsm_datacmd.specs.Fields.{written_text};
 ghost use Rattle.hsm_datacmd.specs.Plans.{plan_row, plan_text, plan_ask, IsPlanOf};
 
-use crate::command::{Command, ask_by, check, command_of};
+use crate::command::{ask_by, check, command_of};
 use crate::fields::{DataFields, put_fields};
 use hsm_answers::laws::{planned, planned_answer};
 use hsm_answers::{Checked, empty_ask, put_code};
 use hsm_auth::{Ask, Granted};
-use hsm_rows::{Code, Module, Row, read_fields, text_at, texts_stand};
+use hsm_rows::{Module, Row, read_fields, text_at, texts_stand};
 use hsm_text::Reply;
 
 /// What a message of a data command comes to before its entry.

@@ -18,6 +18,7 @@ returns-in-Ok-clause-refused c =
     let text = field_is c.text_at-in-Ok-2.result.now c.as_slice-texts.result.now f.texts.items 9 c.text_at-in-Ok-2.ensures same in
     let bytes : List ℕ = if c.same_text-hexadecimal.result then bytes_of_hex c.text_at-in-Ok-2.result.now else c.text_at-in-Ok-2.result.now in
     let data_is : bytes ≡ mac_data r mac_fields =
-    ap₂ (λ (hex : Bool) (t : List ℕ). if hex then bytes_of_hex t else t) (c.same_text-hexadecimal.ensures ∙ ap (λ (t : List ℕ). bytes_eq t (codes "1")) input) text in
+    ap₂ (λ (hex : Bool) (t : List ℕ). if hex then bytes_of_hex t else t)
+    (c.same_text-hexadecimal.ensures ∙ ap (λ (t : List ℕ). bytes_eq t (codes "1")) input) text in
     mac_refused r c.mac_asked-asked.result bytes c.ok.result c.mac_asked-asked.ensures data_is
     (none_is c.value_of_data.result c.ok.result c.ok.ensures.value ∙ c.value_of_data.ensures.refused)

@@ -15,4 +15,5 @@ returns-clause-fault c =
 
 pub returns-clause-takes : goal.returns-clause-takes
 returns-clause-takes c =
-    taken (wrap c.args.set.now c.args.ty) c.args.alg c.args.ty (key_of c.args.text.now) c.check_lmk_key.result (returns-clause-fault c) c.check_lmk_key.ensures.key
+    taken (wrap c.args.set.now c.args.ty) c.args.alg c.args.ty (key_of c.args.text.now) c.check_lmk_key.result (returns-clause-fault c)
+    c.check_lmk_key.ensures.key

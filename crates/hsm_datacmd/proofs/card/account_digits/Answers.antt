@@ -13,4 +13,5 @@ returns-clause-digits c =
 pub returns-clause-decimal : goal.returns-clause-decimal
 returns-clause-decimal c =
     let account = c.args.account.now in
-    subst (λ (xs : List ℕ). list_all is_decimal xs ≡ true) (sym (returns-clause-digits c)) (decimal_values (take (length account - 1) account) c.requires.digits)
+    subst (λ (xs : List ℕ). list_all is_decimal xs ≡ true) (sym (returns-clause-digits c))
+    (decimal_values (take (length account - 1) account) c.requires.digits)

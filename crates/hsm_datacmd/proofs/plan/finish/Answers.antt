@@ -18,7 +18,8 @@ put_good-requires c =
 pub put-requires : goal.put-requires
 put-requires c =
     trailer_room _ _ _ _ _ _ (c.requires.plan.fits c.args.granted.now)
-    (omega (arith, reply_two (plan_row c.args.plan.now) c.requires.plan.data_row, c.put_code-good.ensures.grown)) c.put_good.ensures.grown c.requires.plan.planned.short c.requires.short c.requires.room
+    (omega (arith, reply_two (plan_row c.args.plan.now) c.requires.plan.data_row, c.put_code-good.ensures.grown)) c.put_good.ensures.grown
+    c.requires.plan.planned.short c.requires.short c.requires.room
 
 pub returns : goal.returns
 returns c =
@@ -30,5 +31,6 @@ returns c =
     let fields : Granted → List ℕ = plan_fields m plan in
     let filled : c.put_good.new.reply ≡ coded ++ (if is_none (fault_at plan.checked g) then fields g else []) =
     c.put_good.ensures.text ∙ ap (λ (good : Bool). coded ++ (if good then fields g else [])) c.put_code-good.ensures.good in
-    c.planned_answer.ensures m row (plan_text plan) plan.ask plan.checked plan.trailer.now fields g c.args.reply.now coded c.put_good.new.reply c.put.new.self
+    c.planned_answer.ensures m row (plan_text plan) plan.ask plan.checked plan.trailer.now fields g c.args.reply.now coded c.put_good.new.reply
+    c.put.new.self
     (host_row row c.requires.plan.data_row) c.requires.plan.planned c.put_code-good.ensures.text filled c.put.ensures

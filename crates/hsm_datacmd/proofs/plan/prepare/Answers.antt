@@ -16,7 +16,9 @@ use Rattle.hsm_datacmd.proofs.RoomSteps.{within, fields_fit, late_fit}
 use Rattle.hsm_datacmd.proofs.plan.prepare.Goals as goal
 
 pub read_fields-requires : goal.read_fields-requires
-read_fields-requires c = record { few = few_fields c.args.row.now c.command_of-command.result (row_is (shape_of c.args.row.now) c.requires ∙ ap row_by (sym c.command_of-command.ensures)) }
+read_fields-requires c =
+    let same = row_is (shape_of c.args.row.now) c.requires ∙ ap row_by (sym c.command_of-command.ensures) in
+    record { few = few_fields c.args.row.now c.command_of-command.result same }
 
 pub returns-in-Err-clause-plan : goal.returns-in-Err-clause-plan
 returns-in-Err-clause-plan c =
@@ -84,7 +86,8 @@ returns-in-Ok-check-clause-plan c =
       planned =
           c.planned.ensures.passed m row text r c.ask_by.result passed.late (λ g. written_text m bytes passed.fields g) c.in-Ok.ensures.reading
           (before_is m row command same r None checks.fault) (c.ask_by.ensures.ask ∙ ask_is m row command same r) c.ask_by.ensures.may
-          (after_is m row command same r _ checks.late) c.in-Ok.ensures.short (λ g none. text_is m row command same r g bytes passed.fields texts field (checks.fields none));
+          (after_is m row command same r _ checks.late) c.in-Ok.ensures.short
+          (λ g none. text_is m row command same r g bytes passed.fields texts field (checks.fields none));
       fits = λ g.
           late_fit m text r.trailer bytes g passed.late passed.fields (fields_by command m r) checks.empty checks.fields
           (subst (λ (x : List ℕ). FitsText (length (written_text m x (fields_by command m r) g)) text r.trailer) (sym field)
