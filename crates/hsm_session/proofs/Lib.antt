@@ -3,7 +3,7 @@ pub mod TextLaws
 pub mod BookingLaws
 pub mod Answering
 pub mod Feeding
-pub mod PieceLaws
-pub mod Progress
+pub mod NumberLaws
+pub mod ScriptLaws
 pub mod PlanLaws
 pub mod BuiltLaws

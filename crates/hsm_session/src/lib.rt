@@ -3,13 +3,15 @@
 
 mod built;
 mod lane;
-mod pieces;
+mod lines;
 mod plans;
+mod run;
 mod script;
 mod text;
 mod whole;
 
 pub use built::unbuilt;
+pub use lines::{Line, read_script};
 pub use plans::{Kind, Plan, finish, prepare};
 pub use script::{ScriptEnd, ScriptFault, script_run};
 pub use whole::answer;
