@@ -4,6 +4,11 @@ pub mod BookingLaws
 pub mod Answering
 pub mod Feeding
 pub mod NumberLaws
+pub mod Places
+pub mod Running
+pub mod EndLaws
+pub mod ReadLaws
+pub mod Progress
 pub mod ScriptLaws
 pub mod PlanLaws
 pub mod BuiltLaws

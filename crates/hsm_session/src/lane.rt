@@ -1,6 +1,7 @@
 //! A host lane of a script.
 
 ghost use Rattle.std.specs.Prelude.{◌≡◌, ◌+◌, ◌<◌, ◌≤◌, ◌∷◌, ◌++◌, ℕ, List, [], length, OnOk, OnErr, IfOk, None, codes};
+ghost use Rattle.arrayvec.specs.ArrayVec.{array_vec_len};
 ghost use Rattle.hsm_auth.specs.declared.entry.Entry.{Entry};
 ghost use Rattle.hsm_auth.specs.declared.entry.TheConstants.{MAX_MOMENT};
 ghost use Rattle.hsm_auth.specs.History.{StandsFor};
@@ -27,7 +28,7 @@ use itoa::Buffer;
 pub struct Buffers {
     reply: Reply,
     frame: ArrayVec<u8, 65537>,
-    line: ArrayVec<u8, 131_100>,
+    line: ArrayVec<u8, 131_200>,
 }
 
 impl Buffers {
@@ -65,7 +66,7 @@ impl Buffers {
     // Puts what each line of a host lane begins with in the place of the line.
     fn begin_lane_line(&mut self, number: u32)
         ensures line { self.new.line.items ≡ lane_words number }
-        ensures short { length self.new.line.items ≤ 50 }
+        ensures short { array_vec_len self.new.line ≤ 50 }
         ensures reply { self.new.reply ≡ self.old.reply }
         ensures frame { self.new.frame ≡ self.old.frame }
     {
@@ -119,7 +120,7 @@ impl Buffers {
         requires most { length text.now ≤ 65535 }
         ensures booked { OnOk result ((h : List Entry) → StandsFor ledger.old h →
             Books h (entry_of «module».now console moment h text.now ∷ []) (console_line (reply_of «module».now console moment h text.now))
-                ledger.new (S.stands_for out.old) (S.stands_for out.new)) }
+            ledger.new (S.stands_for out.old) (S.stands_for out.new)) }
         ensures failed { OnErr result (Rose (S.faults out.old) (S.faults out.new)) }
         ensures kept { OnOk result (S.faults out.new ≡ S.faults out.old) }
     {
@@ -281,7 +282,15 @@ impl Lane {
         let mut rest = piece;
         'chunks: while !rest.is_empty() {
             let taken = self.frames.feed(rest);
-            let drained = answer_held(module, ledger, self.number, moment, &mut self.frames, buffers, out)?;
+            let drained = answer_held(
+                module,
+                ledger,
+                self.number,
+                moment,
+                &mut self.frames,
+                buffers,
+                out,
+            )?;
             answered += drained.answered;
             rest = &rest[taken..];
             if let Some(length) = drained.short {

@@ -133,11 +133,12 @@ fn read_piece(alloc: Global, hosts: u8, text: &[u8]) -> Result<Option<Line>, All
     let Some(at) = find_space(text) else {
         return Ok(None);
     };
-    let (number, rest) = text.split_at(at);
+    let (number, _) = text.split_at(at);
+    let (_, digits) = text.split_at(at + 1);
     let Some(lane) = read_lane(hosts, number) else {
         return Ok(None);
     };
-    match read_bytes(alloc, &rest[1..]) {
+    match read_bytes(alloc, digits) {
         Ok(Some(bytes)) => Ok(Some(Line::Piece { lane, bytes })),
         Ok(None) => Ok(None),
         Err(e) => Err(e),
@@ -145,14 +146,15 @@ fn read_piece(alloc: Global, hosts: u8, text: &[u8]) -> Result<Option<Line>, All
 }
 
 fn find_space(text: &[u8]) -> Option<usize>
-    ensures { result ≡ position (λ c. c == 32) text.now }
+    ensures place { result ≡ position (λ c. c == 32) text.now }
+    ensures within { IfSome result (λ at. at < length text.now) }
 {
     text.iter().position(|c| *c == b' ')
 }
 
 // The number of a host lane.
 fn read_lane(hosts: u8, text: &[u8]) -> Option<u32>
-    ensures value { result ≡ lane_number hosts text.now }
+    ensures { result ≡ lane_number hosts text.now }
 {
     match number_within(text, u64::from(hosts)) {
         Some(0) | None => None,
@@ -191,7 +193,8 @@ fn all_digits(text: &[u8]) -> bool
 #[tactic(auto, unfolding(crate::specs::Scripts::number_within))]
 fn number_within(text: &[u8], most: u64) -> Option<u64>
     requires { most ≤ 2 ^ 40 }
-    ensures { result ≡ number_within most text.now }
+    ensures value { result ≡ number_within most text.now }
+    ensures within { IfSome result (λ number. number ≤ most) }
 {
     if !is_number(text) {
         return None;

@@ -77,7 +77,9 @@ impl Run {
                 self.moment = *moment;
                 Ok(())
             }
-            Line::Piece { lane, bytes } => self.take_piece(module, ledger, *lane, bytes, buffers, out),
+            Line::Piece { lane, bytes } => self.take_piece(
+                module, ledger, *lane, bytes, buffers, out,
+            ),
             Line::Console(text) => {
                 buffers.print_console(module, ledger, self.moment, text, out)?;
                 self.entries += 1;

@@ -1,4 +1,4 @@
-use Rattle.std.proofs.Common.{◌∙◌, arith, refl}
+use Rattle.std.proofs.Common.{◌∙◌, ◌∷◌, [], arith, refl}
 use Rattle.hsm_session.proofs.Answering.{answers_none, answers_more}
 use Rattle.hsm_session.proofs.BookingLaws.{still_known}
 use Rattle.hsm_session.proofs.lane.answer_held.Goals as goal
@@ -22,7 +22,7 @@ messages-preserved g c =
           c.args.ledger.now c.messages.ledger c.print_answer.new.ledger
           (g.S.Sink.stands_for c.args.out.now) (g.S.Sink.stands_for c.messages.out) (g.S.Sink.stands_for c.print_answer.new.out) c.messages.answered
           c.in-Message.message.now c.messages.invariant.answers held.0 held.1 held.2 printed.booked;
-      known = still_known c.args.module.now c.args.number c.args.moment _ c.messages.ledger c.print_answer.new.ledger
+      known = still_known c.args.module.now c.args.number c.args.moment (c.in-Message.message.now ∷ []) c.messages.ledger c.print_answer.new.ledger
           (g.S.Sink.stands_for c.messages.out) (g.S.Sink.stands_for c.print_answer.new.out) printed.booked c.messages.invariant.known;
       kept = printed.kept ∙ c.messages.invariant.kept;
     }

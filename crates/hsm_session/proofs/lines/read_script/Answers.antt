@@ -1,4 +1,4 @@
-use Rattle.std.proofs.Common.{◌≡◌, ◌∙◌, ◌+◌, [], length, arith, sym, ap, List}
+use Rattle.std.proofs.Common.{◌∙◌, ◌+◌, arith, sym, ap, List}
 use Rattle.hsm_session.specs.declared.lines.Line.{Line}
 use Rattle.hsm_session.specs.Scripts.{lines, lines_from, script_of}
 use Rattle.hsm_session.specs.Reading.{all_said}

@@ -28,7 +28,7 @@ returns-in-Some-short-clause-feeds g c =
     let drained = c.in_ok-drained.drained in
     let drains = c.in_ok-drained.ensures.drains in
     let feeds : Feeds m moment c.args.self.now mid (fed.0 ++ take taken c.chunks.rest.now) (c.chunks.answered + drained.answered)
-        c.args.ledger.now c.answer_held.new.ledger before (g.S.Sink.stands_for c.answer_held.new.out) =
+    c.args.ledger.now c.answer_held.new.ledger before (g.S.Sink.stands_for c.answer_held.new.out) =
     feeds_more m moment c.args.self.now c.chunks.self mid fed.0 (take taken c.chunks.rest.now) c.chunks.answered c.feed-taken.new.self c.answer_held.new.frames
     c.args.ledger.now c.chunks.ledger c.answer_held.new.ledger before
     (g.S.Sink.stands_for c.chunks.out) (g.S.Sink.stands_for c.answer_held.new.out) drained fed.2 c.feed-taken.ensures.held drains refl refl in
