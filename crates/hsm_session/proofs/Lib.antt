@@ -3,7 +3,13 @@ pub mod TextLaws
 pub mod BookingLaws
 pub mod Answering
 pub mod Feeding
-pub mod PieceLaws
+pub mod NumberLaws
+pub mod Places
+pub mod Running
+pub mod EndLaws
+pub mod ReadLaws
 pub mod Progress
+pub mod ScriptLaws
 pub mod PlanLaws
 pub mod FamilyLaws
+pub mod ClearRuns

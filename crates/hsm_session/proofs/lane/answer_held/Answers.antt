@@ -1,4 +1,4 @@
-use Rattle.std.proofs.Common.{◌∙◌, arith, refl}
+use Rattle.std.proofs.Common.{◌∙◌, ◌∷◌, [], arith, refl}
 use Rattle.hsm_session.proofs.Answering.{answers_none, answers_more}
 use Rattle.hsm_session.proofs.BookingLaws.{still_known}
 use Rattle.hsm_session.proofs.lane.answer_held.Goals as goal
@@ -8,7 +8,7 @@ overflow_add-answered g c = omega (arith, c.messages.invariant.answers.spent)
 
 pub messages-init : goal.messages-init
 messages-init g c = record {
-  answers = answers_none c.args.module.now c.args.frames.now c.args.ledger.now (g.S.Sink.stands_for c.args.out.now);
+  answers = answers_none c.args.module.now c.args.number c.args.moment c.args.frames.now c.args.ledger.now (g.S.Sink.stands_for c.args.out.now);
   known = c.requires.known;
   kept = refl;
 }
@@ -18,11 +18,11 @@ messages-preserved g c =
     let held = rw c.in-Message.is at c.next.follows.holds-at-none in
     let printed = c.in_ok-print_answer-in-Message.ensures in
     record {
-      answers = answers_more c.args.module.now c.args.frames.now c.messages.frames c.next.follows.lender-at-none
+      answers = answers_more c.args.module.now c.args.number c.args.moment c.args.frames.now c.messages.frames c.next.follows.lender-at-none
           c.args.ledger.now c.messages.ledger c.print_answer.new.ledger
           (g.S.Sink.stands_for c.args.out.now) (g.S.Sink.stands_for c.messages.out) (g.S.Sink.stands_for c.print_answer.new.out) c.messages.answered
           c.in-Message.message.now c.messages.invariant.answers held.0 held.1 held.2 printed.booked;
-      known = still_known c.args.module.now _ c.messages.ledger c.print_answer.new.ledger
+      known = still_known c.args.module.now c.args.number c.args.moment (c.in-Message.message.now ∷ []) c.messages.ledger c.print_answer.new.ledger
           (g.S.Sink.stands_for c.messages.out) (g.S.Sink.stands_for c.print_answer.new.out) printed.booked c.messages.invariant.known;
       kept = printed.kept ∙ c.messages.invariant.kept;
     }

@@ -1,7 +1,7 @@
 use Rattle.std.proofs.Common.{◌+◌, arith, add-one}
 use Rattle.std.proofs.lemmas.List.{take_rest}
 use Rattle.hsm_session.proofs.LineLaws.{lines_at, lines_alone}
-use Rattle.hsm_session.proofs.pieces.cut_line.Goals as goal
+use Rattle.hsm_session.proofs.lines.cut_line.Goals as goal
 
 pub returns-then-text-at-eq10-clause-lines : goal.returns-then-text-at-eq10-clause-lines
 returns-then-text-at-eq10-clause-lines c =

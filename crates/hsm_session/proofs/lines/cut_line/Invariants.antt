@@ -1,5 +1,5 @@
 use Rattle.std.proofs.Common.{length, ◌-◌, ◌≡◌, ◌<◌, ◌≤◌, ℕ, get_or}
-use Rattle.hsm_session.proofs.pieces.cut_line.Given as goal
+use Rattle.hsm_session.proofs.lines.cut_line.Given as goal
 
 abbrev pub invariant-bytes : goal.invariant-bytes
 invariant-bytes l = record {
