@@ -2,6 +2,7 @@ use Rattle.std.proofs.Common.{◌≡◌, ◌++◌, List, ℕ, length, sym, ap, �
 use Rattle.hsm_answers.specs.Answers.{answer}
 use Rattle.hsm_answers.specs.Messages.{unknown_answer, command_of, header_of}
 use Rattle.hsm_keycmd.specs.Plans as key
+use Rattle.hsm_pincmd.specs.Plans as pin
 use Rattle.hsm_datacmd.specs.Plans as held
 use Rattle.hsm_console.specs.Plans as officers
 use Rattle.hsm_session.specs.Plans.{planned_row, planned_text, side_of, plan_kind}
@@ -39,6 +40,19 @@ returns-in-Key c =
     ∙ ap (λ (old : List ℕ). old ++ answer m row text c.args.granted.now)
     (c.put.ensures ∙ ap (λ (old : List ℕ). old ++ c.header_of-header.result.now) c.clear.ensures ∙ c.header_of-header.ensures.header)
     ∙ sym (planned_answer_is m side message c.args.granted.now row text plan.planned c.requires.plan.planned (ap planned_row c.in-Key.is) (ap planned_text c.in-Key.is))
+
+pub returns-in-Pin : goal.returns-in-Pin
+returns-in-Pin c =
+    let m = c.args.module.now in
+    let plan = c.args.plan.now in
+    let message = plan.message.now in
+    let side = side_of (plan_kind plan) in
+    let row = pin.plan_row c.in-Pin.plan in
+    let text = pin.plan_text c.in-Pin.plan in
+    c.finish-in-Pin.ensures
+    ∙ ap (λ (old : List ℕ). old ++ answer m row text c.args.granted.now)
+    (c.put.ensures ∙ ap (λ (old : List ℕ). old ++ c.header_of-header.result.now) c.clear.ensures ∙ c.header_of-header.ensures.header)
+    ∙ sym (planned_answer_is m side message c.args.granted.now row text plan.planned c.requires.plan.planned (ap planned_row c.in-Pin.is) (ap planned_text c.in-Pin.is))
 
 pub returns-in-Data : goal.returns-in-Data
 returns-in-Data c =
