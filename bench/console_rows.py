@@ -247,7 +247,11 @@ def check_worked():
             (SET_E1, "L1 00083030303142553031", "L1 00083030303142563035\nEND 1\n"), (SET_E1, "", "END 0\n")]:
         assert run_script(Hsm(lmks), script.encode())[0] == output.encode(), script
     assert run_script(Hsm(), b"T 5\nL3 00") == 2
-    for script in "X", "T", "T 01", "T 1099511627777", "L0 00", "L1 0", "L1", "C", "C ", "C \x7f", "T 5\r", "l1 00":
+    assert run_script(Hsm(), b"L1 00\n\n#\nL2 00\nC VA\nl1 00") == 6
+    assert run_script(Hsm(), b"T 1099511627776\n\n# \xff\n") == (b"END 0\n", 0)
+    for script in [
+            "X", "T", "T 05", "T -1", "T 1099511627777", "T 5\r\n", "L0 00", "L01 00", "L1", "L1 ", "L1 0\n",
+            "L1 0G\n", "L1 00\r\n", "C", "C ", "C \x7f", "l1 00"]:
         assert run_script(Hsm(), script.encode()) == 1
 
 

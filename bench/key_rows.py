@@ -234,7 +234,6 @@ def trailers():
           trailer=longest)
     g.add("A8001" + zmk + sealed("001", "U", EVEN_TWO) + "X", "A911", trailer=b"\x19end")
     g.add("ZZ", "Z[68", trailer=b"\x19end", repeated=b"")
-    g.add("NC", "ND68", trailer=b"\x19end", repeated=b"")
     return g
 
 

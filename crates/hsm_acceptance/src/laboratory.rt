@@ -1,14 +1,12 @@
 // The LMK sets of the test laboratory, and runs of scripts and messages under them.
-ghost use Rattle.std.specs.Prelude.{IfSome};
-ghost use Rattle.hsm_session.specs.Plans.{IsBuilt};
-
+use arrayvec::ArrayVec;
 use hsm_auth::Ledger;
 use hsm_io::MemSink;
 use hsm_lmk::LmkSet;
 use hsm_nibbles::hex_character;
 use hsm_parity::adjust;
 use hsm_rows::Module;
-use hsm_session::{ScriptEnd, ScriptFault, script_run, unbuilt};
+use hsm_session::{ScriptEnd, ScriptFault, script_run};
 use hsm_types::Permits;
 use itoa::Buffer;
 use std::alloc::{Alloc, AllocError, Global};
@@ -62,13 +60,11 @@ fn pairs_of(set: Set) -> [[u8; 16]; 20] {
 }
 
 // The module of a set, with two hosts and the zero seed.
-fn module_of(set: Set) -> Option<Module>
-    ensures { IfSome result IsBuilt }
-{
+fn module_of(set: Set) -> Option<Module> {
     Some(Module {
         lmk: LmkSet::of(&pairs_of(set)).ok()?,
         permits: Permits::table(),
-        disabled: unbuilt(),
+        disabled: ArrayVec::new(),
         header: 4,
         hosts: 2,
         officers: OFFICERS,

@@ -113,18 +113,34 @@ fn ends_of_streams(rt: HostRuntime) -> Result<(), Fail> {
 
 #[test]
 fn lines_that_do_not_read(rt: HostRuntime) -> Result<(), Fail> {
-    let cases: [(&[u8], u64); 8] = [
+    let cases: [(&[u8], u64); 18] = [
         (b"X", 1),
-        (b"\n", 1),
-        (b"L1 00\n\n", 2),
-        (b"L1 00\nL2 00\n", 2),
+        (b"T 5\nL3 00", 2),
+        (b"L1 00\n\n#\nL2 00\nC VA\nl1 00", 6),
+        (b"T", 1),
+        (b"T 05", 1),
+        (b"T -1", 1),
+        (b"T 1099511627777", 1),
+        (b"T 5\r\n", 1),
+        (b"L0 00", 1),
+        (b"L01 00", 1),
+        (b"L1", 1),
+        (b"L1 ", 1),
         (b"L1 0\n", 1),
-        (b"L1 \n", 1),
         (b"L1 0G\n", 1),
         (b"L1 00\r\n", 1),
+        (b"C", 1),
+        (b"C ", 1),
+        (b"C \x7F", 1),
     ];
     for (script, line) in cases {
-        runs(&rt, Set::E1, script, b"", Err(ScriptFault::Line(line)))?;
+        runs(&rt, Set::T, script, b"", Err(ScriptFault::Line(line)))?;
     }
-    Ok(())
+    runs(
+        &rt,
+        Set::T,
+        b"T 1099511627776\n\n# \xFF\n",
+        b"END 0\n",
+        end_of(0, 0, 0),
+    )
 }
