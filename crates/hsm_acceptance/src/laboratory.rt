@@ -59,14 +59,14 @@ fn pairs_of(set: Set) -> [[u8; 16]; 20] {
     pairs
 }
 
-// The module of a set, with two hosts and the zero seed.
-fn module_of(set: Set) -> Option<Module> {
+// The module of a set, with so many hosts and the zero seed.
+fn module_of(set: Set, hosts: u8) -> Option<Module> {
     Some(Module {
         lmk: LmkSet::of(&pairs_of(set)).ok()?,
         permits: Permits::table(),
         disabled: ArrayVec::new(),
         header: 4,
-        hosts: 2,
+        hosts,
         officers: OFFICERS,
         seed: [0; 32],
     })
@@ -80,7 +80,26 @@ pub(crate) fn end_of(entries: u64, cut: u32, short: u32) -> Result<ScriptEnd, Sc
     })
 }
 
-// Runs a script over a new ledger, and compares what it printed and how it ended.
+// Runs a script under a set with so many hosts over a new ledger, and compares what it printed and how it ended.
+pub(crate) fn runs_on(
+    rt: &(impl Abort + Alloc<A = Global>),
+    set: Set,
+    hosts: u8,
+    script: &[u8],
+    output: &[u8],
+    ended: Result<ScriptEnd, ScriptFault>,
+) -> Result<(), Fail> {
+    let alloc = rt.alloc();
+    let module = module_of(set, hosts).ok_or("module")?;
+    let mut ledger = Ledger::new(alloc)?;
+    let mut out = MemSink::new(alloc, output.len() + 1_000, Vec::new(alloc))?;
+    let run = script_run(alloc, &module, &mut ledger, script, &mut out);
+    assert_eq!(rt; out.bytes(), output);
+    assert_eq!(rt; run, ended);
+    Ok(())
+}
+
+// The same with two hosts.
 pub(crate) fn runs(
     rt: &(impl Abort + Alloc<A = Global>),
     set: Set,
@@ -88,14 +107,7 @@ pub(crate) fn runs(
     output: &[u8],
     ended: Result<ScriptEnd, ScriptFault>,
 ) -> Result<(), Fail> {
-    let alloc = rt.alloc();
-    let module = module_of(set).ok_or("module")?;
-    let mut ledger = Ledger::new(alloc)?;
-    let mut out = MemSink::new(alloc, 20_000, Vec::new(alloc))?;
-    let run = script_run(alloc, &module, &mut ledger, script, &mut out);
-    assert_eq!(rt; out.bytes(), output);
-    assert_eq!(rt; run, ended);
-    Ok(())
+    runs_on(rt, set, 2, script, output, ended)
 }
 
 // Appends bytes as upper-case hexadecimal digits.
