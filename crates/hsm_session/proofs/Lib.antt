@@ -14,4 +14,5 @@ pub mod ReadLaws
 pub mod Progress
 pub mod ScriptLaws
 pub mod PlanLaws
-pub mod BuiltLaws
+pub mod FamilyLaws
+pub mod ClearRuns

@@ -143,8 +143,3 @@ pub record Ends (run : Run) (over : ScriptEnd) (before after : List ℕ → Type
   pub entries : over.entries ≡ run.entries
   pub cut : over.cut ≡ count_by is_cut (map lane_end run.lanes.items)
   pub short : over.short ≡ count_by is_short (map lane_end run.lanes.items)
-
--- the least length of a message of the kind
-abbrev pub least_of : Module → Kind → ℕ
-least_of m Host = least_length m
-least_of m Console = 1

@@ -8,10 +8,10 @@ ghost use Rattle.hsm_auth.specs.History.{StandsFor};
 ghost use Rattle.hsm_answers.specs.Messages.{console};
 ghost use Rattle.hsm_io.specs.Outside.{Rose};
 ghost use Rattle.hsm_io.specs.Texts.{Appends, AppendsFront};
-ghost use Rattle.hsm_session.specs.Plans.{IsBuilt, least_length, side_of};
+ghost use Rattle.hsm_session.specs.Plans.{least_for, least_length, side_of};
 ghost use Rattle.hsm_session.specs.Booking.{Books, BooksAll, BooksFront, BooksSome, IsAnswered, IsKnown, console_line, entry_of, lane_words, reply_line, reply_of};
 ghost use Rattle.hsm_session.specs.Runs.{closed_line, end_line, is_cut, is_short, last_line, short_line};
-ghost use Rattle.hsm_session.specs.Lanes.{Drains, FeedsPiece, StopsDraining, StopsPiece, lane_end, least_of};
+ghost use Rattle.hsm_session.specs.Lanes.{Drains, FeedsPiece, StopsDraining, StopsPiece, lane_end};
 
 use crate::plans::{Kind, finish, prepare};
 use crate::text::{append, append_hex};
@@ -52,10 +52,9 @@ impl Buffers {
         moment: u64,
         message: &[u8],
     )
-        requires built { IsBuilt «module».now }
         requires known { IsKnown ledger.old }
         requires moment { moment ≤ MAX_MOMENT }
-        requires least { least_of «module».now kind ≤ length message.now }
+        requires least { least_for «module».now kind ≤ length message.now }
         requires most { length message.now ≤ 65535 }
         ensures { (h : List Entry) → StandsFor ledger.old h → IsAnswered «module».now (side_of kind) moment message.now ledger.old ledger.new self.new.reply h }
     {
@@ -88,7 +87,6 @@ impl Buffers {
         message: &[u8],
         out: &mut S,
     ) -> Result<(), OutFailed>
-        requires built { IsBuilt «module».now }
         requires known { IsKnown ledger.old }
         requires moment { moment ≤ MAX_MOMENT }
         requires least { least_length «module».now ≤ length message.now }
@@ -115,7 +113,6 @@ impl Buffers {
         text: &[u8],
         out: &mut S,
     ) -> Result<(), OutFailed>
-        requires built { IsBuilt «module».now }
         requires known { IsKnown ledger.old }
         requires moment { moment ≤ MAX_MOMENT }
         requires least { 1 ≤ length text.now }
@@ -219,7 +216,6 @@ fn answer_held<S: Sink>(
     buffers: &mut Buffers,
     out: &mut S,
 ) -> Result<Drained, OutFailed>
-    requires built { IsBuilt «module».now }
     requires known { IsKnown ledger.old }
     requires moment { moment ≤ MAX_MOMENT }
     requires least { frames.old.least ≡ least_length «module».now }
@@ -274,7 +270,6 @@ impl Lane {
         buffers: &mut Buffers,
         out: &mut S,
     ) -> Result<u64, OutFailed>
-        requires built { IsBuilt «module».now }
         requires known { IsKnown ledger.old }
         requires moment { moment ≤ MAX_MOMENT }
         requires least { self.old.frames.least ≡ least_length «module».now }

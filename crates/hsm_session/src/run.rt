@@ -3,7 +3,6 @@
 ghost use Rattle.std.specs.Prelude.{◌≡◌, ◌+◌, ◌<◌, ◌≤◌, ◌^◌, ℕ, List, [], length, slice_get, vec_len, Some, OnOk, OnErr, IfOk};
 ghost use Rattle.hsm_io.specs.Outside.{Rose};
 ghost use Rattle.hsm_io.specs.Texts.{AppendsFront};
-ghost use Rattle.hsm_session.specs.Plans.{IsBuilt};
 ghost use Rattle.hsm_session.specs.Booking.{IsKnown};
 ghost use Rattle.hsm_session.specs.Reading.{said_of};
 ghost use Rattle.hsm_session.specs.Scripts.{Said, Piece};
@@ -61,7 +60,6 @@ impl Run {
         buffers: &mut Buffers,
         out: &mut S,
     ) -> Result<(), OutFailed>
-        requires built { IsBuilt «module».now }
         requires known { IsKnown ledger.old }
         requires at { (earlier : List Said) × IsAt «module».now self.old earlier }
         requires moment { self.old.moment ≤ MAX_MOMENT }
@@ -100,7 +98,6 @@ impl Run {
         buffers: &mut Buffers,
         out: &mut S,
     ) -> Result<(), OutFailed>
-        requires built { IsBuilt «module».now }
         requires known { IsKnown ledger.old }
         requires at { (earlier : List Said) × IsAt «module».now self.old earlier }
         requires moment { self.old.moment ≤ MAX_MOMENT }

@@ -1,7 +1,6 @@
 //! Runs of scripts.
 
 ghost use Rattle.hsm_io.specs.Outside.{Rose};
-ghost use Rattle.hsm_session.specs.Plans.{IsBuilt};
 ghost use Rattle.hsm_session.specs.Booking.{IsKnown};
 ghost use Rattle.hsm_session.specs.Runs.{OutRose, RunAnswers};
 ghost use Rattle.hsm_session.specs.Scripts.{script_of};
@@ -45,8 +44,6 @@ pub fn script_run<S: Sink>(
     script: &[u8],
     out: &mut S,
 ) -> Result<ScriptEnd, ScriptFault>
-    // Each host row that the module doesn't disable is built.
-    requires built { IsBuilt «module».now }
     // The ledger stands for some history.
     requires known { IsKnown ledger.old }
     // For each history that the ledger stood for, the text of the run after that history is written, and the ledger stands for that history with the entries of the run.
