@@ -6,8 +6,9 @@ use Rattle.hsm_frame.specs.Frames.{frame, IsMessage}
 use Rattle.hsm_frame.specs.Calls.{Held}
 use Rattle.hsm_auth.specs.declared.ledger.Ledger.{Ledger}
 use Rattle.hsm_rows.specs.declared.settings.Module.{Module}
-use Rattle.hsm_session.specs.Booking.{BooksAll}
-use Rattle.hsm_session.proofs.BookingLaws.{books_none, books_twice}
+use Rattle.hsm_session.specs.Booking.{BooksAll, BooksSome}
+use Rattle.hsm_session.specs.Lanes.{StopsDraining}
+use Rattle.hsm_session.proofs.BookingLaws.{books_none, books_twice, some_more}
 
 -- The first messages among the bytes held were taken and booked, and their answers were printed.
 pub record Answers (m : Module) (lane moment : ℕ) (old new : Held) (was is : Ledger) (before after : List ℕ → Type 0) (answered : ℕ) : Type 0 where
@@ -58,4 +59,22 @@ answers_more m lane moment old mid new was between is before now after answered 
   booked = books_twice m lane moment a.messages (message ∷ []) was between is before now after a.booked booked;
   count = omega (arith, a.count, length-append a.messages (message ∷ []));
   spent = omega (arith, a.spent, length-append (frame message) new.bytes, ap length split);
+}
+
+-- the answer to a message was not wholly written
+pub stops_answering : (m : Module) (lane moment : ℕ) (old mid : Held) (left : List ℕ) (was between is : Ledger) (before now after : List ℕ → Type 0) (answered : ℕ) (message : List ℕ)
+    → Answers m lane moment old mid was between before now answered
+    → IsMessage mid.least message → mid.bytes ≡ frame message ++ left
+    → BooksSome m lane moment (message ∷ []) between is now after
+    → StopsDraining m lane moment old was is before after
+stops_answering m lane moment old mid left was between is before now after answered message a valid split booked = record {
+  messages = a.messages ++ message ∷ [];
+  left = left;
+  split =
+      a.split ∙ ap (λ (rest : List ℕ). flat_map frame a.messages ++ rest) split
+      ∙ sym (append_assoc (flat_map frame a.messages) (frame message) left)
+      ∙ ap (λ (front : List ℕ). front ++ left)
+      (ap (λ (last : List ℕ). flat_map frame a.messages ++ last) (sym (append-nil (frame message))) ∙ sym (flat_map-append frame a.messages (message ∷ [])));
+  each = each_more old.least a.messages message a.each (subst (λ (n : ℕ). IsMessage n message) a.least valid);
+  booked = some_more m lane moment a.messages (message ∷ []) was between is before now after a.booked booked;
 }

@@ -1,7 +1,9 @@
 -- The lanes at the end of a script, and at its beginning.
-use Rattle.std.proofs.Common.{◌≡◌, ℕ, ◌+◌, Bool, true, false, List, [], ◌∷◌, ◌++◌, length, map, take, get_or, count_by, sum_by, cond, ◌<◌, ◌≤◌, None, length-take, refl, sym, ap, subst, ◌∙◌, append_assoc, append-nil, arith}
-use Rattle.std.proofs.lemmas.List.{length-map, map-append, take_more}
+use Rattle.std.proofs.Common.{◌≡◌, ℕ, ◌+◌, Bool, true, false, List, [], ◌∷◌, ◌++◌, length, map, take, drop, get_or, count_by, sum_by, cond, ◌<◌, ◌≤◌, None, length-take, refl, sym, ap, subst, ◌∙◌, append_assoc, append-nil, arith}
+use Rattle.std.proofs.lemmas.List.{length-map, map-append, take_more, take-append-drop}
 use Rattle.std.proofs.lemmas.List.Sums.{sum_by-append}
+use Rattle.hsm_io.specs.Texts.{Appends, AppendsFront}
+use Rattle.hsm_io.proofs.TextLemmas.{appends_then_front, front_of_more}
 use Rattle.hsm_frame.specs.Frames.{StreamEnd, Whole, Part, Short}
 use Rattle.hsm_frame.specs.Calls.{Held}
 use Rattle.hsm_rows.specs.declared.settings.Module.{Module}
@@ -73,3 +75,32 @@ held_more lanes lane none empty =
 pub bit_most : (test : Bool) → cond test 1 0 ≤ 1
 bit_most true = omega arith
 bit_most false = omega arith
+
+end_lines-append : (lane : ℕ) (first second : List StreamEnd) → end_lines lane (first ++ second) ≡ end_lines lane first ++ end_lines (lane + length first) second
+end_lines-append lane [] second = ap (λ (n : ℕ). end_lines n second) (omega arith)
+end_lines-append lane (end ∷ first) second =
+    ap (λ (rest : List ℕ). end_line lane end ++ rest) (end_lines-append (lane + 1) first second)
+    ∙ sym (append_assoc (end_line lane end) (end_lines (lane + 1) first) (end_lines (lane + 1 + length first) second))
+    ∙ ap (λ (n : ℕ). end_lines lane (end ∷ first) ++ end_lines n second) (omega arith)
+
+-- the lines of the first lanes come first
+lines_begin : (lanes : List Lane) (place : ℕ)
+    → end_lines 1 (map lane_end lanes) ≡ end_lines 1 (map lane_end (take place lanes)) ++ end_lines (1 + length (map lane_end (take place lanes))) (map lane_end (drop place lanes))
+lines_begin lanes place =
+    ap (λ (all : List Lane). end_lines 1 (map lane_end all)) (sym (take-append-drop place lanes))
+    ∙ ap (end_lines 1) (map-append lane_end (take place lanes) (drop place lanes))
+    ∙ end_lines-append 1 (map lane_end (take place lanes)) (map lane_end (drop place lanes))
+
+-- a lane's line was not wholly written
+pub line_stopped : (lanes : List Lane) (place : ℕ) (lane : Lane) (rest : List ℕ) (before mid after : List ℕ → Type 0)
+    → place < length lanes → lane ≡ get_or lanes place lane → lane.number ≡ place + 1
+    → Appends before mid (end_lines 1 (map lane_end (take place lanes))) → AppendsFront mid after (end_line lane.number (lane_end lane))
+    → AppendsFront before after (end_lines 1 (map lane_end lanes) ++ rest)
+line_stopped lanes place lane rest before mid after within here number written front =
+    let first = end_lines 1 (map lane_end (take place lanes)) in
+    let line = end_line lane.number (lane_end lane) in
+    let later = end_lines (1 + length (map lane_end (take (place + 1) lanes))) (map lane_end (drop (place + 1) lanes)) in
+    let whole : (first ++ line) ++ later ≡ end_lines 1 (map lane_end lanes) =
+    ap (λ (text : List ℕ). text ++ later) (sym (lines_more lanes place lane within here number)) ∙ sym (lines_begin lanes (place + 1)) in
+    subst (λ (text : List ℕ). AppendsFront before after (text ++ rest)) whole
+    (front_of_more before after ((first ++ line) ++ later) rest (front_of_more before after (first ++ line) later (appends_then_front before mid after first line written front)))

@@ -109,12 +109,12 @@ nothing_after lane [] = refl
 nothing_after lane (byte ∷ held) = refl
 
 -- a lane whose stream these bytes are, by what is held
-record IsOpen (lane : Lane) (fed : List ℕ) (messages : List (List ℕ)) : Type 0 where
-  whole : fed ≡ flat_map frame messages ++ lane.frames.bytes
-  each : AllByRecursion (IsMessage lane.frames.least) messages
-  waits : IsNotYet lane.frames.least lane.frames.bytes
+pub record IsOpen (lane : Lane) (fed : List ℕ) (messages : List (List ℕ)) : Type 0 where
+  pub whole : fed ≡ flat_map frame messages ++ lane.frames.bytes
+  pub each : AllByRecursion (IsMessage lane.frames.least) messages
+  pub waits : IsNotYet lane.frames.least lane.frames.bytes
 
-is_open : (lane : Lane) (fed : List ℕ) (messages : List (List ℕ)) → lane.short ≡ None → IsBehind lane fed messages → IsOpen lane fed messages
+pub is_open : (lane : Lane) (fed : List ℕ) (messages : List (List ℕ)) → lane.short ≡ None → IsBehind lane fed messages → IsOpen lane fed messages
 is_open lane fed messages none b =
     let tail = b.held none in
     record {

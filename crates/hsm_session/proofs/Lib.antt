@@ -2,10 +2,13 @@ pub mod LineLaws
 pub mod TextLaws
 pub mod BookingLaws
 pub mod Answering
+pub mod Streams
 pub mod Feeding
+pub mod Stopping
 pub mod NumberLaws
 pub mod Places
 pub mod Running
+pub mod Existence
 pub mod EndLaws
 pub mod ReadLaws
 pub mod Progress

@@ -1,11 +1,12 @@
 -- How far a run of a script has come.
-use Rattle.std.proofs.Common.{◌≡◌, ℕ, ◌+◌, ◌≤◌, length-append, List, [], ◌∷◌, ◌++◌, length, map, slice_get, refl, sym, ap, subst, ◌∙◌, append-nil, append_assoc, Option, Some, None, arith}
+use Rattle.std.proofs.Common.{◌≡◌, ℕ, ◌+◌, ◌≤◌, length-append, List, [], ◌∷◌, ◌++◌, length, map, count_by, slice_get, refl, sym, ap, subst, ◌∙◌, append-nil, append_assoc, Option, Some, None, arith}
 use Rattle.std.specs.Option.{option_map}
 use Rattle.std.proofs.lemmas.List.{length-map}
 use Rattle.std.proofs.lemmas.Option.{slice_get-map}
 use Rattle.hsm_frame.specs.Frames.{Frames, StreamEnd}
-use Rattle.hsm_io.specs.Texts.{Appends}
-use Rattle.hsm_io.proofs.TextLemmas.{appends_twice}
+use Rattle.hsm_io.specs.Texts.{Appends, AppendsFront}
+use Rattle.hsm_io.proofs.TextLemmas.{appends_then_front, appends_twice, front_of_more}
+use Rattle.hsm_frame.specs.Laws.{HasReading}
 use Rattle.hsm_auth.specs.declared.entry.Entry.{Entry}
 use Rattle.hsm_auth.specs.declared.ledger.Ledger.{Ledger}
 use Rattle.hsm_auth.specs.History.{IsLegal, StandsFor}
@@ -16,8 +17,9 @@ use Rattle.hsm_session.specs.declared.script.ScriptEnd.{ScriptEnd}
 use Rattle.hsm_session.specs.Plans.{least_length}
 use Rattle.hsm_session.specs.Scripts.{Said}
 use Rattle.hsm_session.specs.Booking.{IsKnown}
-use Rattle.hsm_session.specs.Runs.{AreEnds, Prints, Runs, Told, end_lines, got, last_line}
-use Rattle.hsm_session.specs.Lanes.{Ends, IsAt, IsLaneAt, TakesLine, lane_end}
+use Rattle.hsm_session.specs.Runs.{AreEnds, Prints, Runs, Stops, Told, end_lines, got, is_cut, is_short, last_line}
+use Rattle.hsm_session.specs.Lanes.{BringBytes, Ends, IsAt, IsLaneAt, StopsLine, TakesLine, lane_end, run_end}
+use Rattle.hsm_session.proofs.Existence.{ends_exist, first_bring, prints_exist}
 use Rattle.hsm_session.proofs.Running.{framed}
 
 -- Of a run after the history h: the history that the ledger stands for, what was written, and that what is printed for the later lines follows it.
@@ -26,7 +28,9 @@ pub record Written (m : Module) (h : List Entry) (lines earlier later : List Sai
   pub text : List ℕ
   pub stands : StandsFor ledger last
   pub legal : IsLegal h → IsLegal last
-  pub entries : length last ≡ length h + run.entries
+  pub booked : List Entry
+  pub begins : last ≡ h ++ booked
+  pub entries : run.entries ≡ length booked
   pub printed : Appends before now text
   pub then_all : (end : List Entry) (rest : List ℕ) → Prints m last earlier later end rest → Prints m h [] lines end (text ++ rest)
 
@@ -49,7 +53,9 @@ so_far_start m lines run was before at none = record {
     text = [];
     stands = stands;
     legal = λ legal. legal;
-    entries = omega (arith, none);
+    booked = [];
+    begins = sym (append-nil h);
+    entries = none;
     printed = λ base b. subst before (sym (append-nil base)) b;
     then_all = λ end rest p. p;
   };
@@ -73,7 +79,9 @@ so_far_next m lines later line old new was between is before mid after s takes =
             text = w.text ++ t.1;
             stands = t.3.stands;
             legal = λ legal. t.3.legal (w.legal legal);
-            entries = omega (arith, w.entries, t.4, length-append w.last t.0);
+            booked = w.booked ++ t.0;
+            begins = ap (λ (es : List Entry). es ++ t.0) w.begins ∙ append_assoc h w.booked t.0;
+            entries = omega (arith, w.entries, t.4, length-append w.booked t.0);
             printed = appends_twice before mid after w.text t.1 w.printed t.3.printed;
             then_all = λ end rest p.
                 subst (λ (text : List ℕ). Prints m h [] lines end text) (sym (append_assoc w.text t.1 rest))
@@ -125,11 +133,94 @@ so_far_done m lines run over was is before mid after s ends h stands =
         streams = ends_at m run lines at;
         whole = sym (append_assoc w.text (end_lines 1 (map lane_end run.lanes.items)) (last_line run.entries))
             ∙ ap (λ (n : ℕ). (w.text ++ end_lines 1 (map lane_end run.lanes.items)) ++ last_line n) (sym ends.entries);
-        entries = w.entries ∙ ap (λ (n : ℕ). length h + n) (sym ends.entries);
+        booked = w.booked;
+        begins = w.begins;
+        entries = ends.entries ∙ w.entries;
         cut = ends.cut;
         short = ends.short;
       };
       stands = w.stands;
       legal = w.legal;
       printed = appends_twice before mid after w.text last w.printed ends.printed;
+    }
+
+-- ---- where a write failed
+
+-- a line that was not wholly written
+pub so_far_stopped : HasReading → (m : Module) (lines later : List Said) (line : Said) (run : Run) (was between is : Ledger) (before mid after : List ℕ → Type 0)
+    → BringBytes lines → SoFar m lines (line ∷ later) run was between before mid → StopsLine m run line between is mid after
+    → (h : List Entry) → StandsFor was h → Stops m h lines is before after
+so_far_stopped read m lines later line run was between is before mid after bring s stops h stands =
+    let w = s.written h stands in
+    let earlier = s.earlier ++ line ∷ [] in
+    let split : earlier ++ later ≡ lines = append_assoc s.earlier (line ∷ []) later ∙ s.all in
+    let all = subst BringBytes (sym split) bring in
+    let t = stops s.earlier (first_bring earlier later all) s.at w.last w.stands in
+    let front = t.3 in
+    let p = prints_exist read m (w.last ++ t.0) earlier later all in
+    let ends = ends_exist read m lines bring in
+    let answers = w.text ++ (t.1 ++ p.text) in
+    let booked = w.booked ++ (t.0 ++ p.more) in
+    let over : ScriptEnd = record { entries = length booked; cut = count_by is_cut ends.0; short = count_by is_short ends.0 } in
+    let closing = end_lines 1 ends.0 ++ last_line over.entries in
+    let last = (w.last ++ t.0) ++ p.more in
+    let begins : last ≡ h ++ booked = append_assoc w.last t.0 p.more ∙ ap (λ (es : List Entry). es ++ (t.0 ++ p.more)) w.begins ∙ append_assoc h w.booked (t.0 ++ p.more) in
+    record {
+      last = last;
+      text = answers ++ closing;
+      over = over;
+      told = record {
+        answers = answers;
+        ends = ends.0;
+        printed = w.then_all last (t.1 ++ p.text) (t.0, t.1, p.text, t.2, refl, p.prints);
+        streams = ends.1;
+        whole = sym (append_assoc answers (end_lines 1 ends.0) (last_line over.entries));
+        booked = booked;
+        begins = begins;
+        entries = refl;
+        cut = refl;
+        short = refl;
+      };
+      booked = w.booked ++ front.booked;
+      missing = front.missing ++ p.more;
+      begins =
+          ap (λ (es : List Entry). (w.last ++ es) ++ p.more) front.begins ∙ ap (λ (es : List Entry). (es ++ (front.booked ++ front.missing)) ++ p.more) w.begins
+          ∙ simp append_assoc;
+      stands = subst (StandsFor is) (ap (λ (es : List Entry). es ++ front.booked) w.begins ∙ append_assoc h w.booked front.booked) front.stands;
+      legal = λ legal. subst IsLegal (ap (λ (es : List Entry). es ++ front.booked) w.begins ∙ append_assoc h w.booked front.booked) (front.legal (w.legal legal));
+      printed = front_of_more before after answers closing
+          (appends_then_front before mid after w.text (t.1 ++ p.text) w.printed (front_of_more mid after t.1 p.text front.printed));
+    }
+
+-- the lines at the end were not wholly written
+pub so_far_cut : (m : Module) (lines : List Said) (run : Run) (was is : Ledger) (before mid after : List ℕ → Type 0)
+    → SoFar m lines [] run was is before mid → AppendsFront mid after (run_end run)
+    → (h : List Entry) → StandsFor was h → Stops m h lines is before after
+so_far_cut m lines run was is before mid after s front h stands =
+    let w = s.written h stands in
+    let all : s.earlier ≡ lines = sym (append-nil s.earlier) ∙ s.all in
+    let ends = map lane_end run.lanes.items in
+    let over : ScriptEnd = record { entries = run.entries; cut = count_by is_cut ends; short = count_by is_short ends } in
+    record {
+      last = w.last;
+      text = w.text ++ run_end run;
+      over = over;
+      told = record {
+        answers = w.text;
+        ends = ends;
+        printed = subst (λ (text : List ℕ). Prints m h [] lines w.last text) (append-nil w.text) (w.then_all w.last [] (refl, refl));
+        streams = ends_at m run lines (subst (IsAt m run) all s.at);
+        whole = sym (append_assoc w.text (end_lines 1 ends) (last_line run.entries));
+        booked = w.booked;
+        begins = w.begins;
+        entries = w.entries;
+        cut = refl;
+        short = refl;
+      };
+      booked = w.booked;
+      missing = [];
+      begins = w.begins ∙ sym (append-nil (h ++ w.booked));
+      stands = subst (StandsFor is) w.begins w.stands;
+      legal = λ legal. subst IsLegal w.begins (w.legal legal);
+      printed = appends_then_front before mid after w.text (run_end run) w.printed front;
     }

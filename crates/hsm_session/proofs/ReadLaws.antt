@@ -1,5 +1,5 @@
 -- What a script that reads says is within its limits.
-use Rattle.std.proofs.Common.{◌≡◌, ℕ, ◌+◌, ◌≤◌, ◌<◌, ◌==◌, ◌&&◌, nat_le, if◌then◌else◌, Bool, true, false, List, [], ◌∷◌, length, take, drop, sum_by, position, Option, Some, None, Result, Ok, Err, codes, bytes_eq, refl, sym, ap, subst, ◌∙◌, arith, length-drop}
+use Rattle.std.proofs.Common.{◌≡◌, ℕ, zero, suc, slice_index, slice_index_or, ◌^◌, ◌+◌, ◌≤◌, ◌<◌, ◌==◌, ◌&&◌, nat_le, if◌then◌else◌, Bool, true, false, List, [], ◌∷◌, ◌++◌, length, take, drop, sum_by, position, Option, Some, None, Result, Ok, Err, codes, bytes_eq, refl, sym, ap, subst, ◌∙◌, arith, length-drop}
 use Rattle.std.specs.List.{AllByRecursion, list_all}
 use Rattle.std.proofs.lemmas.List.Sums.{sum_by-cons}
 use Rattle.std.specs.Option.{option_map}
@@ -8,7 +8,9 @@ use Rattle.hex.specs.declared.error.FromHexError.{FromHexError}
 use Rattle.hex.proofs.HexLemmas.{decode_of-ok}
 use Rattle.hsm_auth.specs.declared.entry.TheConstants.{MAX_MOMENT}
 use Rattle.hsm_session.specs.Scripts.{Said, Nothing, Moment, Piece, Console, lines, onto_first_line, is_blank, is_printable, moment_of, console_of, piece_of, piece_at, piece_for_lane, lane_number, not_zero, some_bytes, number_within, line_of, lines_from, with_line, script_of}
-use Rattle.hsm_session.specs.Lanes.{IsLine, weight}
+use Rattle.hsm_session.specs.Lanes.{AreBytes, BringBytes, IsLine, weight}
+use Rattle.hsm_session.specs.Runs.{got}
+use Rattle.std.proofs.lemmas.List.Elements.{All-append}
 use Rattle.hsm_session.proofs.NumberLaws.{number_below}
 
 -- the lines of a text have no more bytes than the text
@@ -24,6 +26,12 @@ lines_length (byte ∷ bytes) = go (byte == 10) (lines_length bytes)
         → sum_by length (if test then [] ∷ lines bytes else onto_first_line byte (lines bytes)) ≤ length (byte ∷ bytes)
     go true rest = omega (arith, sum_by-cons length [] (lines bytes))
     go false rest = omega (arith, first_length byte (lines bytes))
+
+-- the element at a place is the same whatever stands past the end
+default_within : (bytes : List ℕ) (k d : ℕ) → k < length bytes → slice_index bytes k ≡ slice_index_or bytes k d
+default_within [] k d within = absurd (omega arith)
+default_within (byte ∷ bytes) zero d within = refl
+default_within (byte ∷ bytes) (suc k) d within = default_within bytes k d (omega arith)
 
 -- what is within its limits, and has no more weight than so many bytes
 abbrev Within : ℕ → ℕ → Said → Type 0
@@ -65,8 +73,8 @@ lane_within hosts None text lane reads is = absurd (cc)
 lane_within hosts (Some number) text lane reads is = go (number == 0) refl is
   where
     go : (test : Bool) → (number == 0) ≡ test → (if test then None else Some number) ≡ Some lane → (1 ≤ lane) × (lane ≤ hosts)
-    go true zero is = absurd (cc)
-    go false zero is =
+    go true none is = absurd (cc)
+    go false some is =
         let same : number ≡ lane = cc in
         let least : 1 ≤ number = grind arith in
         subst (λ (n : ℕ). (1 ≤ n) × (n ≤ hosts)) same (least, number_below hosts text number reads)
@@ -82,7 +90,9 @@ piece_within hosts text said is = at (position (λ c. c == 32) text) is
         let digits = drop (place + 1) text in
         let decoded = bytes_within (decode_of digits) bytes reads in
         let same : Piece lane bytes ≡ said = cc in
-        subst (Within hosts (length text)) same (limits, omega (arith, (decode_of-ok digits bytes decoded).2, length-drop (place + 1) text))
+        let ok = decode_of-ok digits bytes decoded in
+        let are : AreBytes bytes = λ k d within. subst (λ (b : ℕ). b < 2 ^ 8) (default_within bytes k d within) (ok.3 k) in
+        subst (Within hosts (length text)) same ((limits.0, limits.1, are), omega (arith, ok.2, length-drop (place + 1) text))
 
     with_lane : (place : ℕ) (lane : Option ℕ) → lane_number hosts (take place text) ≡ lane
         → piece_for_lane lane (some_bytes (decode_of (drop (place + 1) text))) ≡ Some said → Within hosts (length text) said
@@ -150,3 +160,15 @@ unfolding script_of
 script_within hosts script said is =
     let w = lines_within hosts 1 (lines script) said is in
     (w.0, omega (arith, w.1, lines_length script))
+
+-- what the lines of a script bring each lane is bytes
+pub script_brings : (hosts : ℕ) (said : List Said) → AllByRecursion (IsLine hosts) said → BringBytes said
+script_brings hosts [] all = λ lane k d within. absurd (omega arith)
+script_brings hosts (Nothing ∷ later) all = script_brings hosts later all.1
+script_brings hosts (Moment moment ∷ later) all = script_brings hosts later all.1
+script_brings hosts (Piece to bytes ∷ later) all = λ lane. brings lane (to == lane) (script_brings hosts later all.1 lane)
+  where
+    brings : (lane : ℕ) (test : Bool) → AreBytes (got lane later) → AreBytes ((if test then bytes else []) ++ got lane later)
+    brings lane true rest = All-append (λ (b : ℕ). b < 2 ^ 8) bytes (got lane later) all.0.2 rest
+    brings lane false rest = rest
+script_brings hosts (Console text ∷ later) all = script_brings hosts later all.1

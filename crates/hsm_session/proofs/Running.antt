@@ -14,9 +14,9 @@ use Rattle.hsm_session.specs.declared.lane.Lane.{Lane}
 use Rattle.hsm_session.specs.declared.run.Run.{Run}
 use Rattle.hsm_session.specs.Plans.{least_length}
 use Rattle.hsm_session.specs.Scripts.{Said, Nothing, Moment, Piece, Console}
-use Rattle.hsm_session.specs.Booking.{Books, console_line, entries_of, entry_of, reply_of}
+use Rattle.hsm_session.specs.Booking.{Books, BooksFront, console_line, entries_of, entry_of, reply_of}
 use Rattle.hsm_session.specs.Runs.{brought, got, moment_after, moment_at, piece_text}
-use Rattle.hsm_session.specs.Lanes.{FeedsPiece, IsAt, IsBehind, IsLaneAt, TakesLine, all_held, lane_end}
+use Rattle.hsm_session.specs.Lanes.{AreBytes, FeedsPiece, IsAt, IsBehind, IsLaneAt, StopsLine, StopsPiece, TakesLine, all_held, lane_end}
 use Rattle.hsm_session.proofs.BookingLaws.{books_nothing, length-entries}
 use Rattle.hsm_session.proofs.Places.{each_set}
 
@@ -98,7 +98,7 @@ brought_none lane other piece differs =
     let no : other == lane ≡ false = ne_eqb other lane (λ e. differs (sym e)) in
     ap (λ (test : Bool). if test then piece else []) no
 
-brought_here : (lane : ℕ) (piece : List ℕ) → brought lane (Piece lane piece) ≡ piece
+pub brought_here : (lane : ℕ) (piece : List ℕ) → brought lane (Piece lane piece) ≡ piece
 brought_here lane piece =
     let yes : lane == lane ≡ true = eq-eqb lane lane refl in
     ap (λ (test : Bool). if test then piece else []) yes
@@ -165,3 +165,47 @@ takes_piece m old new lane fed place piece answered was is before after here fee
                 ),
           );
     }
+
+-- a piece whose answers were not wholly written
+pub stops_at_piece : (m : Module) (old : Run) (lane : Lane) (place : ℕ) (piece : List ℕ) (was is : Ledger) (before after : List ℕ → Type 0)
+    → slice_get old.lanes.items place ≡ Some lane → StopsPiece m old.moment lane piece was is before after
+    → StopsLine m old (Piece (place + 1) piece) was is before after
+stops_at_piece m old lane place piece was is before after here stops = λ earlier bring at h stands.
+    let line = Piece (place + 1) piece in
+    let fed = got (place + 1) earlier in
+    let lane_at = at.lanes place lane here in
+    let whole : fed ++ piece ≡ got (place + 1) (earlier ++ line ∷ []) =
+    ap (λ (rest : List ℕ). fed ++ rest) (sym (brought_here (place + 1) piece)) ∙ sym (got_more (place + 1) earlier line) in
+    let s = stops fed lane_at.messages (subst AreBytes (sym whole) (bring (place + 1))) lane_at.behind in
+    let now = moment_at earlier in
+    let text = λ (n t : ℕ). piece_text m n t h (lane_end lane) s.0 s.1 in
+    let books : BooksFront h (entries_of m now h s.0) (text (place + 1) now) is before after =
+    subst (λ (n : ℕ). BooksFront h (entries_of m now h s.0) (text n now) is before after) lane_at.number
+    (subst (λ (t : ℕ). BooksFront h (entries_of m t h s.0) (text lane.number t) is before after) at.moment (s.3 h stands)) in (
+      entries_of m now h s.0,
+      text (place + 1) now,
+      (
+        lane_at.messages,
+        lane_end lane,
+        s.0,
+        s.1,
+        framed m (place + 1) fed lane lane_at.messages lane_at.least lane_at.behind,
+        subst (λ (n : ℕ). Frames n (got (place + 1) (earlier ++ line ∷ [])) (lane_at.messages ++ s.0) s.1) lane_at.least
+            (subst (λ (bytes : List ℕ). Frames lane.frames.least bytes (lane_at.messages ++ s.0) s.1) whole s.2),
+        refl,
+        refl,
+      ),
+      books,
+    )
+
+-- a console text whose answer was not wholly written
+pub stops_at_console : (m : Module) (old : Run) (text : List ℕ) (was is : Ledger) (before after : List ℕ → Type 0)
+    → ((h : List Entry) → StandsFor was h
+    → BooksFront h (entry_of m console old.moment h text ∷ []) (console_line (reply_of m console old.moment h text)) is before after)
+    → StopsLine m old (Console text) was is before after
+stops_at_console m old text was is before after books = λ earlier bring at h stands. (
+  entry_of m console (moment_at earlier) h text ∷ [],
+  console_line (reply_of m console (moment_at earlier) h text),
+  (refl, refl),
+  subst (λ (now : ℕ). BooksFront h (entry_of m console now h text ∷ []) (console_line (reply_of m console now h text)) is before after) at.moment (books h stands),
+)

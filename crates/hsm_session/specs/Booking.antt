@@ -7,7 +7,7 @@ use Rattle.hsm_auth.specs.History.{entry, outcome, IsLegal, StandsFor}
 use Rattle.hsm_rows.specs.declared.settings.Module.{Module}
 use Rattle.hsm_answers.specs.Messages.{Side, host, message_ask, message_answer}
 use Rattle.hsm_frame.specs.Frames.{frame}
-use Rattle.hsm_io.specs.Texts.{Appends}
+use Rattle.hsm_io.specs.Texts.{Appends, AppendsFront}
 
 -- the entry of a message after a history: number 0, the moment, what the message asks, and what the history answers
 abbrev pub entry_of : Module → Side → ℕ → List Entry → List ℕ → Entry
@@ -50,10 +50,24 @@ pub record Books (h more : List Entry) (text : List ℕ) (ledger : Ledger) (befo
   pub legal : IsLegal h → IsLegal (h ++ more)
   pub printed : Appends before after text
 
+-- After the history h some of these entries were booked, from the front, and a part from the front of this text was written.
+pub record BooksFront (h more : List Entry) (text : List ℕ) (ledger : Ledger) (before after : List ℕ → Type 0) : Type 0 where
+  pub booked : List Entry
+  pub missing : List Entry
+  pub begins : more ≡ booked ++ missing
+  pub stands : StandsFor ledger (h ++ booked)
+  pub legal : IsLegal h → IsLegal (h ++ booked)
+  pub printed : AppendsFront before after text
+
 -- Whatever history the ledger stood for, these messages of a host lane were booked after it, and their answers were printed.
 abbrev pub BooksAll : Module → ℕ → ℕ → List (List ℕ) → Ledger → Ledger → (List ℕ → Type 0) → (List ℕ → Type 0) → Type 0
 BooksAll m lane moment messages old new before after =
     (h : List Entry) → StandsFor old h → Books h (entries_of m moment h messages) (answer_lines m lane moment h messages) new before after
+
+-- Whatever history the ledger stood for, of these messages of a host lane some were booked after it, from the front, and a part from the front of their answers was printed.
+abbrev pub BooksSome : Module → ℕ → ℕ → List (List ℕ) → Ledger → Ledger → (List ℕ → Type 0) → (List ℕ → Type 0) → Type 0
+BooksSome m lane moment messages old new before after =
+    (h : List Entry) → StandsFor old h → BooksFront h (entries_of m moment h messages) (answer_lines m lane moment h messages) new before after
 
 -- A message was booked after each history that the ledger stood for, and this is its answer there.
 pub record IsAnswered (m : Module) (side : Side) (moment : ℕ) (message : List ℕ) (old new : Ledger) (answer : List ℕ) (h : List Entry) : Type 0 where

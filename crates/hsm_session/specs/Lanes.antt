@@ -1,7 +1,7 @@
 -- The host lanes of a script: what each stream holds, and what a line makes of them.
-use Rattle.std.specs.Prelude.{◌≡◌, ℕ, ◌+◌, ◌<◌, ◌≤◌, List, [], ◌∷◌, ◌++◌, length, flat_map, sum_by, count_by, map, slice_get, Option, Some, None, MatchOption}
+use Rattle.std.specs.Prelude.{◌≡◌, All, ℕ, ◌+◌, ◌^◌, ◌<◌, ◌≤◌, List, [], ◌∷◌, ◌++◌, length, flat_map, sum_by, count_by, map, slice_get, Option, Some, None, MatchOption}
 use Rattle.std.specs.List.{AllByRecursion}
-use Rattle.hsm_frame.specs.Frames.{frame, IsMessage, IsShort, IsTail, StreamEnd, Whole, Part, Short}
+use Rattle.hsm_frame.specs.Frames.{Frames, frame, IsMessage, IsShort, IsTail, StreamEnd, Whole, Part, Short}
 use Rattle.hsm_frame.specs.Calls.{Held, IsNotYet}
 use Rattle.hsm_auth.specs.declared.entry.Entry.{Entry}
 use Rattle.hsm_auth.specs.declared.entry.TheConstants.{MAX_MOMENT}
@@ -17,7 +17,7 @@ use Rattle.hsm_session.specs.declared.run.Run.{Run}
 use Rattle.hsm_session.specs.Plans.{least_length}
 use Rattle.hsm_session.specs.Scripts.{Said, Nothing, Moment, Piece}
 use Rattle.hsm_session.specs.Scripts as said
-use Rattle.hsm_session.specs.Booking.{Books, BooksAll, entries_of}
+use Rattle.hsm_session.specs.Booking.{Books, BooksAll, BooksFront, BooksSome, entries_of}
 use Rattle.hsm_session.specs.declared.script.ScriptEnd.{ScriptEnd}
 use Rattle.hsm_session.specs.Runs.{Tells, end_lines, got, is_cut, is_short, last_line, moment_at, piece_text}
 
@@ -66,6 +66,25 @@ pub record FeedsPiece (m : Module) (moment : ℕ) (old new : Lane) (piece : List
       × ((h : List Entry) → StandsFor was h
       → Books h (entries_of m moment h more) (piece_text m old.number moment h (lane_end old) more (lane_end new)) is before after)
 
+-- Answering the messages held, until a write failed: some of their messages were booked at the moment, from the front, and a part from the front of their answers was printed.
+pub record StopsDraining (m : Module) (lane moment : ℕ) (old : Held) (was is : Ledger) (before after : List ℕ → Type 0) : Type 0 where
+  pub messages : List (List ℕ)
+  pub left : List ℕ
+  pub split : old.bytes ≡ flat_map frame messages ++ left
+  pub each : AllByRecursion (IsMessage old.least) messages
+  pub booked : BooksSome m lane moment messages was is before after
+
+-- each of these is a byte
+abbrev pub AreBytes : List ℕ → Type 0
+AreBytes bytes = All (λ b. b < 2 ^ 8) bytes
+
+-- What a piece does to a lane, whatever came before it, where a write failed: of its entries and its text a part from the front was booked and written.
+abbrev pub StopsPiece : Module → ℕ → Lane → List ℕ → Ledger → Ledger → (List ℕ → Type 0) → (List ℕ → Type 0) → Type 0
+StopsPiece m moment old piece was is before after =
+    (fed : List ℕ) (messages : List (List ℕ)) → AreBytes (fed ++ piece) → IsBehind old fed messages
+    → (more : List (List ℕ)) × (end : StreamEnd) × Frames old.frames.least (fed ++ piece) (messages ++ more) end
+    × ((h : List Entry) → StandsFor was h → BooksFront h (entries_of m moment h more) (piece_text m old.number moment h (lane_end old) more end) is before after)
+
 -- The lane has this number and the module's least length, and stands behind these bytes.
 pub record IsLaneAt (m : Module) (place : ℕ) (fed : List ℕ) (lane : Lane) : Type 0 where
   pub number : lane.number ≡ place
@@ -94,7 +113,7 @@ weight (said.Console text) = 1
 abbrev pub IsLine : ℕ → Said → Type 0
 IsLine hosts Nothing = Unit {0}
 IsLine hosts (Moment moment) = moment ≤ MAX_MOMENT
-IsLine hosts (Piece lane bytes) = (1 ≤ lane) × (lane ≤ hosts)
+IsLine hosts (Piece lane bytes) = (1 ≤ lane) × (lane ≤ hosts) × AreBytes bytes
 IsLine hosts (said.Console text) = (1 ≤ length text) × (length text ≤ 1000)
 
 -- What a line does to a run, whatever the lines before it were.
@@ -104,9 +123,23 @@ pub record TakesLine (m : Module) (old new : Run) (line : Said) (was is : Ledger
       → IsAt m new (earlier ++ line ∷ []) × ((h : List Entry) → StandsFor was h
       → (more : List Entry) × (text : List ℕ) × Tells m h earlier line more text × Books h more text is before after × (new.entries ≡ old.entries + length more))
 
--- What is printed when the lines are over, and the counts.
+-- each lane got bytes
+abbrev pub BringBytes : List Said → Type 0
+BringBytes lines = (lane : ℕ) → AreBytes (got lane lines)
+
+-- What a line does to a run, whatever the lines before it were, where a write failed: of its entries and its text a part from the front was booked and written.
+abbrev pub StopsLine : Module → Run → Said → Ledger → Ledger → (List ℕ → Type 0) → (List ℕ → Type 0) → Type 0
+StopsLine m old line was is before after =
+    (earlier : List Said) → BringBytes (earlier ++ line ∷ []) → IsAt m old earlier → (h : List Entry) → StandsFor was h
+    → (more : List Entry) × (text : List ℕ) × Tells m h earlier line more text × BooksFront h more text is before after
+
+-- what is printed when the lines are over
+abbrev pub run_end : Run → List ℕ
+run_end run = end_lines 1 (map lane_end run.lanes.items) ++ last_line run.entries
+
+-- The text at the end, and the counts.
 pub record Ends (run : Run) (over : ScriptEnd) (before after : List ℕ → Type 0) : Type 0 where
-  pub printed : Appends before after (end_lines 1 (map lane_end run.lanes.items) ++ last_line run.entries)
+  pub printed : Appends before after (run_end run)
   pub entries : over.entries ≡ run.entries
   pub cut : over.cut ≡ count_by is_cut (map lane_end run.lanes.items)
   pub short : over.short ≡ count_by is_short (map lane_end run.lanes.items)

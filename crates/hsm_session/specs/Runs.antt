@@ -123,7 +123,9 @@ pub record Told (m : Module) (h : List Entry) (lines : List Said) (last : List E
   pub printed : Prints m h [] lines last answers
   pub streams : AreEnds m lines ends
   pub whole : text ≡ answers ++ end_lines 1 ends ++ last_line over.entries
-  pub entries : length last ≡ length h + over.entries
+  pub booked : List Entry
+  pub begins : last ≡ h ++ booked
+  pub entries : over.entries ≡ length booked
   pub cut : over.cut ≡ count_by is_cut ends
   pub short : over.short ≡ count_by is_short ends
 
@@ -155,7 +157,8 @@ RunAnswers m read old new before after (Ok over) =
     (lines : List Said) × (read ≡ Ok lines) × ((h : List Entry) → StandsFor old h → Runs m h lines over new before after)
 RunAnswers m read old new before after (Err (Line n)) = (read ≡ Err n) × (new ≡ old) × Stays before after
 RunAnswers m read old new before after (Err Memory) = (new ≡ old) × Stays before after
-RunAnswers m read old new before after (Err Out) = (lines : List Said) × (read ≡ Ok lines)
+RunAnswers m read old new before after (Err Out) =
+    (lines : List Said) × (read ≡ Ok lines) × ((h : List Entry) → StandsFor old h → Stops m h lines new before after)
 
 -- `Out` comes only where the sink's count rose.
 abbrev pub OutRose : ℕ → ℕ → Result ScriptEnd ScriptFault → Type 0

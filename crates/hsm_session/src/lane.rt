@@ -7,16 +7,17 @@ ghost use Rattle.hsm_auth.specs.declared.entry.TheConstants.{MAX_MOMENT};
 ghost use Rattle.hsm_auth.specs.History.{StandsFor};
 ghost use Rattle.hsm_answers.specs.Messages.{console};
 ghost use Rattle.hsm_io.specs.Outside.{Rose};
-ghost use Rattle.hsm_io.specs.Texts.{Appends};
+ghost use Rattle.hsm_io.specs.Texts.{Appends, AppendsFront};
 ghost use Rattle.hsm_session.specs.Plans.{least_for, least_length, side_of};
-ghost use Rattle.hsm_session.specs.Booking.{Books, BooksAll, IsAnswered, IsKnown, console_line, entry_of, lane_words, reply_line, reply_of};
+ghost use Rattle.hsm_session.specs.Booking.{Books, BooksAll, BooksFront, BooksSome, IsAnswered, IsKnown, console_line, entry_of, lane_words, reply_line, reply_of};
 ghost use Rattle.hsm_session.specs.Runs.{closed_line, end_line, is_cut, is_short, last_line, short_line};
-ghost use Rattle.hsm_session.specs.Lanes.{Drains, FeedsPiece, lane_end};
+ghost use Rattle.hsm_session.specs.Lanes.{Drains, FeedsPiece, StopsDraining, StopsPiece, lane_end};
 
 use crate::plans::{Kind, finish, prepare};
 use crate::text::{append, append_hex};
 use arrayvec::ArrayVec;
 use hsm_auth::Ledger;
+use hsm_frame::laws::has_one_reading;
 use hsm_frame::{Frames, Next, frame_into};
 use hsm_io::{OutFailed, Sink, write_all};
 use hsm_rows::Module;
@@ -91,6 +92,7 @@ impl Buffers {
         requires least { least_length «module».now ≤ length message.now }
         requires most { length message.now ≤ 65535 }
         ensures booked { OnOk result (BooksAll «module».now number moment (message.now ∷ []) ledger.old ledger.new (S.stands_for out.old) (S.stands_for out.new)) }
+        ensures part { OnErr result (BooksSome «module».now number moment (message.now ∷ []) ledger.old ledger.new (S.stands_for out.old) (S.stands_for out.new)) }
         ensures failed { OnErr result (Rose (S.faults out.old) (S.faults out.new)) }
         ensures kept { OnOk result (S.faults out.new ≡ S.faults out.old) }
     {
@@ -118,6 +120,9 @@ impl Buffers {
         ensures booked { OnOk result ((h : List Entry) → StandsFor ledger.old h →
             Books h (entry_of «module».now console moment h text.now ∷ []) (console_line (reply_of «module».now console moment h text.now))
             ledger.new (S.stands_for out.old) (S.stands_for out.new)) }
+        ensures part { OnErr result ((h : List Entry) → StandsFor ledger.old h →
+            BooksFront h (entry_of «module».now console moment h text.now ∷ []) (console_line (reply_of «module».now console moment h text.now))
+            ledger.new (S.stands_for out.old) (S.stands_for out.new)) }
         ensures failed { OnErr result (Rose (S.faults out.old) (S.faults out.new)) }
         ensures kept { OnOk result (S.faults out.new ≡ S.faults out.old) }
     {
@@ -138,6 +143,7 @@ impl Buffers {
     ) -> Result<(), OutFailed>
         requires { length words.now ≤ 100 }
         ensures ok { OnOk result (Appends (S.stands_for out.old) (S.stands_for out.new) (lane_words number ++ words.now)) }
+        ensures front { OnErr result (AppendsFront (S.stands_for out.old) (S.stands_for out.new) (lane_words number ++ words.now)) }
         ensures failed { OnErr result (Rose (S.faults out.old) (S.faults out.new)) }
         ensures kept { OnOk result (S.faults out.new ≡ S.faults out.old) }
     {
@@ -155,6 +161,7 @@ impl Buffers {
         out: &mut S,
     ) -> Result<(), OutFailed>
         ensures ok { OnOk result (Appends (S.stands_for out.old) (S.stands_for out.new) (short_line number length)) }
+        ensures front { OnErr result (AppendsFront (S.stands_for out.old) (S.stands_for out.new) (short_line number length)) }
         ensures failed { OnErr result (Rose (S.faults out.old) (S.faults out.new)) }
         ensures kept { OnOk result (S.faults out.new ≡ S.faults out.old) }
     {
@@ -170,6 +177,7 @@ impl Buffers {
     #[tactic(auto, unfolding(crate::specs::Runs::last_line))]
     pub fn print_last<S: Sink>(&mut self, entries: u64, out: &mut S) -> Result<(), OutFailed>
         ensures ok { OnOk result (Appends (S.stands_for out.old) (S.stands_for out.new) (last_line entries)) }
+        ensures front { OnErr result (AppendsFront (S.stands_for out.old) (S.stands_for out.new) (last_line entries)) }
         ensures failed { OnErr result (Rose (S.faults out.old) (S.faults out.new)) }
         ensures kept { OnOk result (S.faults out.new ≡ S.faults out.old) }
     {
@@ -213,6 +221,7 @@ fn answer_held<S: Sink>(
     requires least { frames.old.least ≡ least_length «module».now }
     requires room { length frames.old.bytes ≤ 65537 }
     ensures drains { IfOk result (Drains «module».now number moment frames.old frames.new ledger.old ledger.new (S.stands_for out.old) (S.stands_for out.new)) }
+    ensures stops { OnErr result (StopsDraining «module».now number moment frames.old ledger.old ledger.new (S.stands_for out.old) (S.stands_for out.new)) }
     ensures failed { OnErr result (Rose (S.faults out.old) (S.faults out.new)) }
     ensures kept { OnOk result (S.faults out.new ≡ S.faults out.old) }
 {
@@ -266,9 +275,11 @@ impl Lane {
         requires least { self.old.frames.least ≡ least_length «module».now }
         requires held { length self.old.frames.bytes < 65537 }
         ensures feeds { IfOk result (λ answered. FeedsPiece «module».now moment self.old self.new piece.now answered ledger.old ledger.new (S.stands_for out.old) (S.stands_for out.new)) }
+        ensures stops { OnErr result (StopsPiece «module».now moment self.old piece.now ledger.old ledger.new (S.stands_for out.old) (S.stands_for out.new)) }
         ensures failed { OnErr result (Rose (S.faults out.old) (S.faults out.new)) }
         ensures kept { OnOk result (S.faults out.new ≡ S.faults out.old) }
     {
+        has_one_reading();
         if let Some(_) = self.short {
             buffers.print_words(self.number, b"closed\n", out)?;
             return Ok(0);
@@ -316,6 +327,7 @@ impl Lane {
     #[tactic(auto, unfolding(crate::specs::Runs::cut_line))]
     pub fn print_end<S: Sink>(&self, buffers: &mut Buffers, out: &mut S) -> Result<(), OutFailed>
         ensures ok { OnOk result (Appends (S.stands_for out.old) (S.stands_for out.new) (end_line self.now.number (lane_end self.now))) }
+        ensures front { OnErr result (AppendsFront (S.stands_for out.old) (S.stands_for out.new) (end_line self.now.number (lane_end self.now))) }
         ensures failed { OnErr result (Rose (S.faults out.old) (S.faults out.new)) }
         ensures kept { OnOk result (S.faults out.new ≡ S.faults out.old) }
     {

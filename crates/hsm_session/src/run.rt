@@ -2,12 +2,13 @@
 
 ghost use Rattle.std.specs.Prelude.{◌≡◌, ◌+◌, ◌<◌, ◌≤◌, ◌^◌, ℕ, List, [], length, slice_get, vec_len, Some, OnOk, OnErr, IfOk};
 ghost use Rattle.hsm_io.specs.Outside.{Rose};
+ghost use Rattle.hsm_io.specs.Texts.{AppendsFront};
 ghost use Rattle.hsm_session.specs.Booking.{IsKnown};
 ghost use Rattle.hsm_session.specs.Reading.{said_of};
 ghost use Rattle.hsm_session.specs.Scripts.{Said, Piece};
 ghost use Rattle.hsm_session.specs.declared.lane.Lane.{Lane};
 ghost use Rattle.hsm_auth.specs.declared.entry.TheConstants.{MAX_MOMENT};
-ghost use Rattle.hsm_session.specs.Lanes.{Ends, IsAt, IsLine, TakesLine, all_held, weight};
+ghost use Rattle.hsm_session.specs.Lanes.{Ends, IsAt, IsLine, StopsLine, TakesLine, run_end, all_held, weight};
 
 use crate::lane::{Buffers, Lane};
 use crate::lines::Line;
@@ -65,6 +66,7 @@ impl Run {
         requires line { IsLine «module».now.hosts (said_of line.now) }
         requires room { self.old.entries + all_held self.old.lanes.items + weight (said_of line.now) < 2 ^ 64 }
         ensures takes { OnOk result (TakesLine «module».now self.old self.new (said_of line.now) ledger.old ledger.new (S.stands_for out.old) (S.stands_for out.new)) }
+        ensures stops { OnErr result (StopsLine «module».now self.old (said_of line.now) ledger.old ledger.new (S.stands_for out.old) (S.stands_for out.new)) }
         ensures moment { OnOk result (self.new.moment ≤ MAX_MOMENT) }
         ensures failed { OnErr result (Rose (S.faults out.old) (S.faults out.new)) }
         ensures kept { OnOk result (S.faults out.new ≡ S.faults out.old) }
@@ -102,6 +104,7 @@ impl Run {
         requires lane { (1 ≤ number) × (number ≤ «module».now.hosts) }
         requires room { self.old.entries + all_held self.old.lanes.items + length piece.now < 2 ^ 64 }
         ensures takes { OnOk result (TakesLine «module».now self.old self.new (Piece number piece.now) ledger.old ledger.new (S.stands_for out.old) (S.stands_for out.new)) }
+        ensures stops { OnErr result (StopsLine «module».now self.old (Piece number piece.now) ledger.old ledger.new (S.stands_for out.old) (S.stands_for out.new)) }
         ensures moment { self.new.moment ≡ self.old.moment }
         ensures failed { OnErr result (Rose (S.faults out.old) (S.faults out.new)) }
         ensures kept { OnOk result (S.faults out.new ≡ S.faults out.old) }
@@ -117,6 +120,7 @@ impl Run {
         requires numbers { (i : ℕ) (lane : Lane) → slice_get self.now.lanes.items i ≡ Some lane → lane.number ≡ i + 1 }
         requires few { vec_len self.now.lanes < 2 ^ 32 }
         ensures ends { IfOk result (λ over. Ends self.now over (S.stands_for out.old) (S.stands_for out.new)) }
+        ensures front { OnErr result (AppendsFront (S.stands_for out.old) (S.stands_for out.new) (run_end self.now)) }
         ensures failed { OnErr result (Rose (S.faults out.old) (S.faults out.new)) }
     {
         let mut cut = 0;

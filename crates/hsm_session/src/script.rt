@@ -9,6 +9,7 @@ use crate::lane::Buffers;
 use crate::lines::read_script;
 use crate::run::Run;
 use hsm_auth::Ledger;
+use hsm_frame::laws::has_one_reading;
 use hsm_io::Sink;
 use hsm_rows::Module;
 use std::alloc::Global;
@@ -49,6 +50,7 @@ pub fn script_run<S: Sink>(
     ensures answers { RunAnswers «module».now (script_of «module».now.hosts script.now) ledger.old ledger.new (S.stands_for out.old) (S.stands_for out.new) result }
     ensures cause { OutRose (S.faults out.old) (S.faults out.new) result }
 {
+    has_one_reading();
     let lines = read_script(alloc, module.hosts, script)?;
     let Ok(mut run) = Run::open(alloc, module) else {
         return Err(ScriptFault::Memory);

@@ -1,6 +1,7 @@
 use Rattle.std.proofs.Common.{◌∙◌, ◌∷◌, [], arith, refl}
-use Rattle.hsm_session.proofs.Answering.{answers_none, answers_more}
-use Rattle.hsm_session.proofs.BookingLaws.{still_known}
+use Rattle.hsm_session.specs.Lanes.{StopsDraining}
+use Rattle.hsm_session.proofs.Answering.{answers_none, answers_more, stops_answering}
+use Rattle.hsm_session.proofs.BookingLaws.{for_err, still_known}
 use Rattle.hsm_session.proofs.lane.answer_held.Goals as goal
 
 pub overflow_add-answered : goal.overflow_add-answered
@@ -26,3 +27,14 @@ messages-preserved g c =
           (g.S.Sink.stands_for c.messages.out) (g.S.Sink.stands_for c.print_answer.new.out) printed.booked c.messages.invariant.known;
       kept = printed.kept ∙ c.messages.invariant.kept;
     }
+
+pub returns-in_err-print_answer-in-Message-clause-stops : goal.returns-in_err-print_answer-in-Message-clause-stops
+returns-in_err-print_answer-in-Message-clause-stops g c =
+    let m = c.args.module.now in
+    let before = g.S.Sink.stands_for c.args.out.now in
+    let after = g.S.Sink.stands_for c.print_answer.new.out in
+    let held = rw c.in-Message.is at c.next.ensures.answer in
+    for_err c.from_residual.result (StopsDraining m c.args.number c.args.moment c.args.frames.now c.args.ledger.now c.print_answer.new.ledger before after)
+    (stops_answering m c.args.number c.args.moment c.args.frames.now c.messages.frames held.1.0 c.args.ledger.now c.messages.ledger c.print_answer.new.ledger
+    before (g.S.Sink.stands_for c.messages.out) after c.messages.answered c.in-Message.message.now c.messages.invariant.answers held.0 held.1.1
+    c.in_err-print_answer-in-Message.ensures.part)

@@ -7,8 +7,8 @@ use Rattle.hsm_session.specs.declared.lines.Line.{Line}
 use Rattle.hsm_session.specs.Scripts.{Said, script_of}
 use Rattle.hsm_session.specs.Reading.{all_said, said_of}
 use Rattle.hsm_session.specs.Lanes.{IsLine, TakesLine, all_held, weight}
-use Rattle.hsm_session.proofs.Progress.{SoFar, so_far_start, so_far_next, so_far_done, so_far_known}
-use Rattle.hsm_session.proofs.ReadLaws.{script_within}
+use Rattle.hsm_session.proofs.Progress.{SoFar, so_far_cut, so_far_stopped, so_far_start, so_far_next, so_far_done, so_far_known}
+use Rattle.hsm_session.proofs.ReadLaws.{script_brings, script_within}
 use Rattle.hsm_session.proofs.script.script_run.Goals as goal
 
 pub lines-init : goal.lines-init
@@ -85,3 +85,35 @@ returns-in-Ok-end-clause-answers g c =
     let done = so_far_done m (all_said items) c.lines.run c.in-Ok-end.over c.args.ledger.now c.lines.ledger before mid (g.S.Sink.stands_for c.end.new.out) so_far c.in-Ok-end.ensures.ends in
     let read = c.in_ok-lines.ensures ∙ ap (λ (lines : List Line). Ok (all_said lines)) (sym c.deref-line-items.ensures.value) in
     (all_said items, read, done)
+
+pub returns-in-Err-clause-answers : goal.returns-in-Err-clause-answers
+returns-in-Err-clause-answers g c =
+    let m = c.args.module.now in
+    let items = c.deref-line-items.result.now in
+    let at = c.lines.line-index in
+    let line = c.line-item.result in
+    let here : drop at items ≡ line ∷ drop (at + 1) items = grind (arith, common_steps) in
+    let later = all_said (drop (at + 1) items) in
+    let all = all_said items in
+    let before = g.S.Sink.stands_for c.args.out.now in
+    let mid = g.S.Sink.stands_for c.lines.out in
+    let after = g.S.Sink.stands_for c.take_line.new.out in
+    let read = c.in_ok-lines.ensures ∙ ap (λ (lines : List Line). Ok (all_said lines)) (sym c.deref-line-items.ensures.value) in
+    let bring = script_brings m.hosts all (script_within m.hosts c.args.script.now all read).0 in
+    let so_far = subst (λ (left : List Line). SoFar m all (all_said left) c.lines.run c.args.ledger.now c.lines.ledger before mid) here c.lines.invariant.so_far in (
+      all,
+      read,
+      so_far_stopped c.has_one_reading.ensures.some m all later (said_of line) c.lines.run c.args.ledger.now c.lines.ledger c.take_line.new.ledger before mid after bring so_far
+          c.in-Err.ensures.stops,
+    )
+
+pub returns-clause-answers : goal.returns-clause-answers
+returns-clause-answers g c =
+    let m = c.args.module.now in
+    let items = c.deref-line-items.result.now in
+    let before = g.S.Sink.stands_for c.args.out.now in
+    let mid = g.S.Sink.stands_for c.lines.out in
+    let none : drop c.lines.line-index items ≡ [] = drop_all c.lines.line-index items c.lines-test.false in
+    let so_far = subst (λ (left : List Line). SoFar m (all_said items) (all_said left) c.lines.run c.args.ledger.now c.lines.ledger before mid) none c.lines.invariant.so_far in
+    let read = c.in_ok-lines.ensures ∙ ap (λ (lines : List Line). Ok (all_said lines)) (sym c.deref-line-items.ensures.value) in
+    (all_said items, read, so_far_cut m (all_said items) c.lines.run c.args.ledger.now c.lines.ledger before mid (g.S.Sink.stands_for c.end.new.out) so_far c.in-Err-end.ensures.front)
