@@ -1,10 +1,12 @@
 -- What the code that the command crates share answers.
-use Rattle.std.specs.Prelude.{ℕ, if◌then◌else◌, List, Option, Some, None, Result, Ok, Err}
+use Rattle.std.specs.Prelude.{ℕ, ◌||◌, if◌then◌else◌, List, map, Option, Some, None, Result, Ok, Err}
+use Rattle.std.specs.Str.{bytes_eq}
 use Rattle.hsm_auth.specs.declared.activity.Activity.{Activity}
 use Rattle.hsm_auth.specs.declared.activity.Place.TheVariants.{Host}
 use Rattle.hsm_types.specs.declared.types.Act.{Act}
 use Rattle.hsm_types.specs.declared.types.KeyType.{KeyType}
 use Rattle.hsm_types.specs.declared.types.Permit.{Permit}
+use Rattle.hsm_nibbles.specs.Characters.{digit_value}
 use Rattle.hsm_rows.specs.declared.row.Code.{Code}
 use Rattle.hsm_rows.specs.Reading.{is_end}
 use Rattle.hsm_answers.specs.declared.keys.KeyGiven.{KeyGiven}
@@ -31,3 +33,7 @@ host_activity act ty = record { category = category_of act; ty = Some ty; place 
 -- the need of an act: where its permit is A
 abbrev pub need_by : Permit → Act → KeyType → Option Activity
 need_by permit act ty = if is_needed permit then Some (host_activity act ty) else None
+
+-- 01 where a value is given that isn't the one that is written; letters may be of either case
+abbrev pub compared_code : List ℕ → List ℕ → Option ℕ
+compared_code given written = if is_end given || bytes_eq (map digit_value given) (map digit_value written) then None else Some 1

@@ -1,18 +1,21 @@
 -- What a message's checks came to before its entry, and what it is answered after them.
-use Rattle.std.specs.Prelude.{◌≡◌, ℕ, List, [], ◌∷◌, ◌++◌, flat_map, Option, Some, None, Result, Ok, Err}
+use Rattle.std.specs.Prelude.{◌≡◌, ℕ, ◌≤◌, List, [], ◌∷◌, ◌++◌, length, flat_map, Option, Some, None, Result, Ok, Err}
 use Rattle.std.specs.Option.{option_map}
+use Rattle.hsm_auth.specs.declared.entry.Ask.{Ask}
 use Rattle.hsm_auth.specs.declared.entry.Granted.{Granted}
+use Rattle.hsm_auth.specs.History.{CanAsk}
 use Rattle.hsm_rows.specs.declared.settings.Module.{Module}
 use Rattle.hsm_rows.specs.declared.row.Code.{Code}
 use Rattle.hsm_rows.specs.Table.{RowShape}
 use Rattle.hsm_rows.specs.Rules.{RowRules, rules_of}
 use Rattle.hsm_rows.specs.Texts.{two_digits}
-use Rattle.hsm_rows.specs.Reading.{ReadText}
+use Rattle.hsm_rows.specs.Reading.{ReadText, reading}
 use Rattle.hsm_answers.specs.declared.plans.Checked.{Checked}
 use Rattle.hsm_answers.specs.declared.plans.Checked.TheVariants.{Unread, Failed, Passed}
 use Rattle.hsm_answers.specs.Keys.{first_code}
 use Rattle.hsm_answers.specs.Values.{values}
 use Rattle.hsm_answers.specs.Checks.{check_before, check_after, entry_fault}
+use Rattle.hsm_answers.specs.Asks.{ask_of}
 
 -- the number of a code
 abbrev pub number_of : Code → ℕ
@@ -66,3 +69,11 @@ fields_text m rules row g r = flat_map (λ field. field) (values m rules r g row
 abbrev pub AreFields : Module → RowShape → Result ReadText Code → Checked → Granted → List ℕ → Type 0
 AreFields m row (Err code) checked g fields = Unit {0}
 AreFields m row (Ok r) checked g fields = fault_at checked g ≡ None → fields_text m (rules_of row) row g r ≡ fields
+
+-- What a plan keeps of a message of the row: its ask, what its checks came to, the trailer that is repeated, and its reply fields by the answer of its entry.
+pub record IsPlanned (m : Module) (row : RowShape) (text : List ℕ) (ask : Ask) (checked : Checked) (trailer : List ℕ) (fields : Granted → List ℕ) : Type 0 where
+  pub asked : ask ≡ ask_of m row text
+  pub may : CanAsk ask
+  pub checks : IsChecked m row (reading row text) checked trailer
+  pub short : length trailer ≤ 33
+  pub answers : (g : Granted) → AreFields m row (reading row text) checked g (fields g)

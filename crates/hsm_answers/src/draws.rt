@@ -1,10 +1,13 @@
 //! Words and keys that are drawn at an entry.
-ghost use Rattle.std.specs.Prelude.{◌≡◌, ◌+◌, ◌^◌, ◌<◌, ◌≤◌, length, map};
-ghost use Rattle.hsm_answers.specs.Draws.{word, drawn_part, unlike, turned, drawn_key};
+ghost use Rattle.std.specs.Prelude.{◌≡◌, ◌+◌, ◌-◌, ◌^◌, ◌<◌, ◌≤◌, ◌++◌, IsTrue, length, map, take, replicate};
+ghost use Rattle.hsm_pinblock.specs.Blocks.{permits_fill};
+ghost use Rattle.hsm_answers.specs.Draws.{word, drawn_part, unlike, turned, drawn_key, drawn_digits, fill_nibble, drawn_fill};
 
 use hsm_parity::adjusted_byte;
+use hsm_pinblock::Format;
 use hsm_rows::Module;
 use hsm_tdes::Key;
+use hsm_types::Pin;
 use rand_chacha::ChaCha20Rng;
 use rand_core::SeedableRng;
 use rand_core::utils::NextWord;
@@ -86,4 +89,55 @@ pub fn draw_key(module: &Module, place: u64, parts: usize) -> Key
     }
     let c = unlike(&b, part_at(module, place + 2 + 2));
     Key::three(&a, &b, &c)
+}
+
+// Digits, each a word modulo 10, from the place on; then zeros.
+fn digits_from(module: &Module, place: u64, count: usize) -> [u8; 12]
+    requires most { count ≤ 12 }
+    requires place { place < 2 ^ 63 }
+    ensures { take count result ≡ drawn_digits «module».now place count }
+{
+    let mut out = [0; 12];
+    for i in 0..count {
+        out[i] = (word(module, place + i as u64) % 10) as u8;
+    }
+    out
+}
+
+/// A PIN of so many digits, whose words begin at the place: each digit is one word modulo 10.
+pub fn draw_pin(module: &Module, place: u64, count: usize) -> Pin
+    requires least { 4 ≤ count }
+    requires most { count ≤ 12 }
+    requires place { place < 2 ^ 63 }
+    ensures { result ≡ drawn_digits «module».now place count }
+{
+    match Pin::of(&digits_from(module, place, count)[..count]) {
+        Some(pin) => pin,
+        None => unreachable!(),
+    }
+}
+
+// The fill nibble of a word.
+fn fill_nibble(format: Format, word: u32) -> u8
+    ensures { result ≡ fill_nibble format word }
+{
+    match format {
+        Format::F01 | Format::F03 => 15,
+        Format::F05 => (word % 16) as u8,
+        Format::F47 => 10 + (word % 6) as u8,
+    }
+}
+
+/// The fill of a block in the format, whose words begin at the place: so many nibbles, then 15 to the end.
+pub fn draw_fill(module: &Module, format: Format, place: u64, count: usize) -> [u8; 14]
+    requires most { count ≤ 14 }
+    requires place { place < 2 ^ 63 }
+    ensures fill { result ≡ drawn_fill «module».now format place count ++ replicate (14 - count) 15 }
+    ensures permitted { IsTrue (permits_fill format result) }
+{
+    let mut out = [15; 14];
+    for i in 0..count {
+        out[i] = fill_nibble(format, word(module, place + i as u64));
+    }
+    out
 }

@@ -5,11 +5,12 @@ ghost use Rattle.std.specs.Option.{option_map};
 ghost use Rattle.std.specs.Char.{is_ascii_hexdigit};
 ghost use Rattle.hsm_types.specs.Schemes.{scheme_parts};
 ghost use Rattle.hsm_nibbles.specs.Characters.{bytes_of_hex};
-ghost use Rattle.hsm_text.specs.KeyTexts.{scheme_named};
+ghost use Rattle.hsm_text.specs.KeyTexts.{scheme_named, scheme_of};
 ghost use Rattle.hsm_lmk.specs.Sealing.{wrap};
 ghost use Rattle.hsm_rows.specs.Rules.{lmk, key_at};
 ghost use Rattle.hsm_answers.specs.Keys.{key_of, differs, scheme_fault, length_fault, key_data_fault, given_fault, opened_key, type_of_code, wrapper_of, pair_type, flag_parts};
 ghost use Rattle.hsm_answers.specs.Checks.{repeats_part};
+ghost use Rattle.hsm_answers.specs.Values.{first_part, second_part};
 ghost use Rattle.hsm_answers.specs.Given.{data_of, code_in, key_given};
 
 use arrayvec::ArrayVec;
@@ -35,6 +36,13 @@ pub struct Asked {
     pub parity: Code,
 }
 
+/// A pair of keys of one part each.
+#[derive(Clone, Copy, Debug, PartialEq, Eq)]
+pub struct KeyPair {
+    pub first: Key,
+    pub second: Key,
+}
+
 // A key text's scheme and bytes.
 #[derive(Drop)]
 pub(crate) struct KeyGiven {
@@ -55,8 +63,8 @@ pub fn scheme_named(letter: &[u8]) -> Scheme
     }
 }
 
-// The bytes that hexadecimal digits name, two digits a byte.
-fn bytes_in(digits: &[u8]) -> ArrayVec<u8, 24>
+/// The bytes that at most 48 hexadecimal digits name, two digits a byte.
+pub fn bytes_in(digits: &[u8]) -> ArrayVec<u8, 24>
     requires short { length digits.now ≤ 48 }
     requires hexadecimal { IsTrue (list_all is_ascii_hexdigit digits.now) }
     ensures bytes { result.items ≡ bytes_of_hex digits.now }
@@ -157,6 +165,36 @@ pub fn check_lmk_key(set: &LmkSet, asked: &Asked, text: &[u8]) -> Result<Key, Co
     match key_in(text) {
         Some(given) => check_under_lmk(set, asked, &given),
         None => Err(Code(15)),
+    }
+}
+
+// The two parts of a key as keys.
+fn pair_of(key: &Key) -> KeyPair
+    requires { length key.now ≡ 2 }
+    ensures first { result.first ≡ first_part key.now }
+    ensures second { result.second ≡ second_part key.now }
+    ensures first_part { length result.first ≡ 1 }
+    ensures second_part { length result.second ≡ 1 }
+{
+    KeyPair {
+        first: Key::one(&key.part(0)),
+        second: Key::one(&key.part(1)),
+    }
+}
+
+/// The pair of keys of a key text of two parts under the LMK pair of its type, or the first code that holds of the
+/// text, as [`check_lmk_key`] tells it.
+pub fn check_key_pair(set: &LmkSet, asked: &Asked, text: &[u8]) -> Result<KeyPair, Code>
+    requires { scheme_parts (scheme_of text.now) ≡ 2 }
+    ensures fault { code_in result ≡ key_data_fault (Some (wrap set.now asked.now.ty)) lmk asked.now (key_of text.now) }
+    ensures first { IfOk result (λ pair. pair.first ≡ first_part (opened_key (wrap set.now asked.now.ty) (key_of text.now))) }
+    ensures second { IfOk result (λ pair. pair.second ≡ second_part (opened_key (wrap set.now asked.now.ty) (key_of text.now))) }
+    ensures first_part { IfOk result (λ pair. length pair.first ≡ 1) }
+    ensures second_part { IfOk result (λ pair. length pair.second ≡ 1) }
+{
+    match check_lmk_key(set, asked, text) {
+        Ok(key) => Ok(pair_of(&key)),
+        Err(code) => Err(code),
     }
 }
 

@@ -4,9 +4,10 @@ ghost use Rattle.std.specs.Option.{option_map};
 ghost use Rattle.hsm_rows.specs.Table.{shape_of};
 ghost use Rattle.hsm_answers.specs.Values.{first_of};
 ghost use Rattle.hsm_answers.specs.Checks.{is_refused};
+ghost use Rattle.hsm_answers.specs.Asks.{empty_ask};
 ghost use Rattle.hsm_answers.specs.Plans.{number_of, fault_at, code_text};
 
-use hsm_auth::Granted;
+use hsm_auth::{Ask, Granted, Needs};
 use hsm_rows::{Code, Row};
 use hsm_text::Reply;
 
@@ -26,6 +27,19 @@ fn is_refused(granted: &Granted) -> bool
     ensures { result ≡ is_refused granted.now }
 {
     matches!(granted, Granted::Refused)
+}
+
+/// The ask of a message that is refused before its entry: a use without needs and words.
+pub fn empty_ask() -> Ask
+    ensures { result ≡ empty_ask }
+{
+    Ask::Use {
+        needs: Needs {
+            first: None,
+            second: None,
+        },
+        words: 0,
+    }
 }
 
 /// The place of the first random word of a granted use, else 0.

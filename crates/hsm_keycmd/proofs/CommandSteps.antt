@@ -1,5 +1,5 @@
 -- What the rows of the key commands are.
-use Rattle.std.proofs.Common.{◌≡◌, ℕ, ◌≤◌, false, ◌||◌, inl, inr, List, [], ◌∷◌, ◌++◌, length, refl, sym, ap, ◌∙◌, arith, append-nil, subst}
+use Rattle.std.proofs.Common.{◌≡◌, ℕ, ◌≤◌, false, ◌||◌, inl, inr, List, [], ◌∷◌, ◌++◌, length, refl, sym, ap, ◌∙◌, arith, append-nil}
 use Rattle.std.specs.Prelude.{Option, None, if◌then◌else◌}
 use Rattle.hsm_text.specs.KeyTexts.{scheme_named}
 use Rattle.hsm_auth.specs.declared.entry.Ask.TheVariants as ask
@@ -22,7 +22,7 @@ use Rattle.hsm_answers.specs.Asks.{row_ask, as_needs, asked_words}
 use Rattle.hsm_answers.specs.Plans.{fields_text}
 use Rattle.hsm_keycmd.specs.declared.command.Command.{Command}
 use Rattle.hsm_keycmd.specs.declared.command.Command.TheVariants.{A0, A6, A8, Bu}
-use Rattle.hsm_keycmd.specs.Commands.{IsKeyRow, row_by, rules_by, fields_by}
+use Rattle.hsm_keycmd.specs.Commands.{IsKeyRow, command_by, row_by, rules_by, fields_by}
 use Rattle.hsm_keycmd.specs.declared.fields.KeyFields.{KeyFields}
 use Rattle.hsm_keycmd.specs.Fields.{wrap_by, wrapped_text, made_text}
 
@@ -42,12 +42,13 @@ rules_are A6 = refl
 rules_are A8 = refl
 rules_are Bu = refl
 
--- the row is one of the key commands
-pub is_key_row : (command : Command) → IsKeyRow (row_by command)
-is_key_row A0 = inl refl
-is_key_row A6 = inr (inl refl)
-is_key_row A8 = inr (inr (inl refl))
-is_key_row Bu = inr (inr (inr refl))
+-- the row of a key command is that of its code
+pub row_is : (row : RowShape) → IsKeyRow row → row ≡ row_by (command_by row.code)
+unfolding row_A0 row_A6 row_A8 row_BU
+row_is row (inl e) = e ∙ ap (λ (d : RowShape). row_by (command_by d.code)) (sym e)
+row_is row (inr (inl e)) = e ∙ ap (λ (d : RowShape). row_by (command_by d.code)) (sym e)
+row_is row (inr (inr (inl e))) = e ∙ ap (λ (d : RowShape). row_by (command_by d.code)) (sym e)
+row_is row (inr (inr (inr e))) = e ∙ ap (λ (d : RowShape). row_by (command_by d.code)) (sym e)
 
 -- no key command is the console's
 pub host_row : (row : RowShape) → IsKeyRow row → is_console row ≡ false
@@ -133,7 +134,3 @@ module _ (m : Module) (row : RowShape) (command : Command) (same : row ≡ row_b
       ap (λ (x : RowRules). fields_text m x row g r) rules_same
       ∙ (ap (λ (d : RowShape). fields_text m (rules_by command) d g r) same
       ∙ (fields_are m r g command ∙ ap (λ (f : KeyFields). made_text m f (first_of g)) (sym h)))
-
-  -- it is one of the key commands
-  pub key_row_is : IsKeyRow row
-  key_row_is = subst IsKeyRow (sym same) (is_key_row command)

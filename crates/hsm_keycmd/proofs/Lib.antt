@@ -1,6 +1,4 @@
-pub mod KeyRows
 pub mod NeedSteps
 pub mod FieldSteps
 pub mod CheckSteps
 pub mod CommandSteps
-pub mod PlanSteps

@@ -1,5 +1,5 @@
 -- The rows of the key commands.
-use Rattle.std.specs.Prelude.{◌≡◌, ◌⊎◌, ℕ, Bool, ◌||◌, List, [], ◌∷◌, codes}
+use Rattle.std.specs.Prelude.{◌≡◌, ◌⊎◌, ℕ, List, codes, if◌then◌else◌}
 use Rattle.std.specs.Str.{bytes_eq}
 use Rattle.hsm_rows.specs.declared.settings.Module.{Module}
 use Rattle.hsm_rows.specs.Table.{RowShape, row_A0, row_A6, row_A8, row_BU}
@@ -10,17 +10,17 @@ use Rattle.hsm_keycmd.specs.declared.command.Command.TheVariants.{A0, A6, A8, Bu
 use Rattle.hsm_keycmd.specs.declared.fields.KeyFields.{KeyFields}
 use Rattle.hsm_keycmd.specs.Rows.{fields_A0, fields_A6, fields_A8, fields_BU}
 
--- the rows of the key commands
-unfoldable pub key_rows : List RowShape
-key_rows = row_A0 ∷ row_A6 ∷ row_A8 ∷ row_BU ∷ []
-
--- the row is one of them
+-- the row is that of a key command
 abbrev pub IsKeyRow : RowShape → Type 0
 IsKeyRow row = (row ≡ row_A0) ⊎ ((row ≡ row_A6) ⊎ ((row ≡ row_A8) ⊎ (row ≡ row_BU)))
 
--- a key command has the code
-abbrev pub is_key_code : List ℕ → Bool
-is_key_code code = bytes_eq code (codes "A0") || bytes_eq code (codes "A6") || bytes_eq code (codes "A8") || bytes_eq code (codes "BU")
+-- the command of a code
+abbrev pub command_by : List ℕ → Command
+command_by code =
+    if bytes_eq code (codes "A0") then A0
+    else if bytes_eq code (codes "A6") then A6
+    else if bytes_eq code (codes "A8") then A8
+    else Bu
 
 -- the row of a command
 abbrev pub row_by : Command → RowShape

@@ -1,14 +1,10 @@
 -- Plans of the key commands.
-use Rattle.std.specs.Prelude.{◌≡◌, ℕ, ◌≤◌, List, length}
+use Rattle.std.specs.Prelude.{ℕ, List}
 use Rattle.hsm_auth.specs.declared.entry.Ask.{Ask}
-use Rattle.hsm_auth.specs.declared.entry.Granted.{Granted}
-use Rattle.hsm_auth.specs.History.{CanAsk}
 use Rattle.hsm_rows.specs.declared.settings.Module.{Module}
 use Rattle.hsm_rows.specs.Table.{RowShape, shape_of}
-use Rattle.hsm_rows.specs.Reading.{reading}
-use Rattle.hsm_answers.specs.Asks.{ask_of}
 use Rattle.hsm_answers.specs.Values.{first_of}
-use Rattle.hsm_answers.specs.Plans.{IsChecked, AreFields}
+use Rattle.hsm_answers.specs.Plans.{IsPlanned}
 use Rattle.hsm_keycmd.specs.declared.plan.KeyPlan.{KeyPlan}
 use Rattle.hsm_keycmd.specs.Fields.{CanMake, made_text}
 use Rattle.hsm_keycmd.specs.Commands.{IsKeyRow}
@@ -25,14 +21,10 @@ plan_text p = p.text.now
 abbrev pub plan_ask : KeyPlan → Ask
 plan_ask p = p.ask
 
--- the plan is the one of the text of the row in the module: its ask, what the checks came to, and the reply fields
+-- the plan is the one of the text of the row in the module: what was read and checked, and the reply fields
 pub record IsPlan (m : Module) (row : RowShape) (text : List ℕ) (p : KeyPlan) : Type 0 where
   pub key_row : IsKeyRow row
-  pub ask : p.ask ≡ ask_of m row text
-  pub may : CanAsk p.ask
-  pub checked : IsChecked m row (reading row text) p.checked p.trailer.now
-  pub short : length p.trailer.now ≤ 33
-  pub fields : (g : Granted) → AreFields m row (reading row text) p.checked g (made_text m p.fields (first_of g))
+  pub planned : IsPlanned m row text p.ask p.checked p.trailer.now (λ g. made_text m p.fields (first_of g))
   pub sound : CanMake p.fields
 
 -- the plan is one that `prepare` gives for the module

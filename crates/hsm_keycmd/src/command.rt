@@ -1,12 +1,11 @@
 //! The rows of the key commands as an enum.
-ghost use Rattle.std.specs.Prelude.{◌≡◌, ◌≤◌, IfOk, IfSome};
-ghost use Rattle.std.specs.Option.{option_map};
-ghost use Rattle.hsm_rows.specs.Table.{shape_of, shown_shape, row_with};
+ghost use Rattle.std.specs.Prelude.{◌≡◌, ◌≤◌, IfOk};
+ghost use Rattle.hsm_rows.specs.Table.{shape_of};
 ghost use Rattle.hsm_rows.specs.Reading.{read_text_of};
 ghost use Rattle.hsm_answers.specs.Given.{code_in};
 ghost use Rattle.hsm_answers.specs.Checks.{check_before, needs_of};
 ghost use Rattle.hsm_answers.specs.Asks.{as_needs, asked_words};
-ghost use Rattle.hsm_keycmd.specs.Commands.{IsKeyRow, key_rows, is_key_code, row_by, rules_by, fields_by};
+ghost use Rattle.hsm_keycmd.specs.Commands.{command_by, rules_by, fields_by};
 ghost use Rattle.hsm_keycmd.specs.Fields.{CanMake};
 
 use crate::export::check_a8;
@@ -15,7 +14,7 @@ use crate::generate::check_a0;
 use crate::import::check_a6;
 use crate::value::check_bu;
 use hsm_auth::Needs;
-use hsm_rows::{Code, Fields, Module, Row, row_of, same_text};
+use hsm_rows::{Code, Fields, Module, Row};
 
 // A key command.
 #[derive(Clone, Copy)]
@@ -34,41 +33,15 @@ pub(crate) struct Passed {
     pub(crate) fields: KeyFields,
 }
 
-/// The row of a key command. None exactly where no key command has the code.
-pub fn key_row(code: &[u8; 2]) -> Option<&'static Row>
-    ensures row { option_map shown_shape result ≡ row_with code.now key_rows }
-    ensures key { IfSome result (λ r. IsKeyRow (shape_of r.now)) }
-{
-    if is_key_code(code) {
-        row_of(code)
-    } else {
-        None
-    }
-}
-
-// Whether a key command has the code.
-fn is_key_code(code: &[u8; 2]) -> bool
-    ensures { result ≡ is_key_code code.now }
-{
-    same_text(code, b"A0")
-        || same_text(code, b"A6")
-        || same_text(code, b"A8")
-        || same_text(code, b"BU")
-}
-
 // The command of a row.
 pub(crate) fn command_of(row: &Row) -> Command
-    requires { IsKeyRow (shape_of row.now) }
-    ensures { shape_of row.now ≡ row_by result }
+    ensures { result ≡ command_by (shape_of row.now).code }
 {
-    if same_text(row.code, b"A0") {
-        Command::A0
-    } else if same_text(row.code, b"A6") {
-        Command::A6
-    } else if same_text(row.code, b"A8") {
-        Command::A8
-    } else {
-        Command::Bu
+    match row.code {
+        b"A0" => Command::A0,
+        b"A6" => Command::A6,
+        b"A8" => Command::A8,
+        _ => Command::Bu,
     }
 }
 

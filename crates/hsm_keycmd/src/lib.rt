@@ -11,8 +11,4 @@ mod needs;
 mod plan;
 mod value;
 
-pub use command::key_row;
 pub use plan::{KeyPlan, finish, prepare};
-
-#[cfg(test)]
-mod tests;

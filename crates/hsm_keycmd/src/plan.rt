@@ -3,16 +3,16 @@ ghost use Rattle.std.specs.Prelude.{◌≡◌, ◌+◌, ◌^◌, ◌<◌, ◌≤
 ghost use Rattle.hsm_auth.specs.History.{CanAsk, Fits};
 ghost use Rattle.hsm_rows.specs.Table.{shape_of};
 ghost use Rattle.hsm_answers.specs.Answers.{answer};
-ghost use Rattle.hsm_answers.specs.Asks.{ask_of, empty_ask};
+ghost use Rattle.hsm_answers.specs.Asks.{ask_of};
 ghost use Rattle.hsm_keycmd.specs.Commands.{IsKeyRow};
 ghost use Rattle.hsm_keycmd.specs.Fields.{CanMake, made_text};
 ghost use Rattle.hsm_keycmd.specs.Plans.{plan_row, plan_text, plan_ask, IsPlanOf};
 
 use crate::command::{check, command_of};
 use crate::fields::{KeyFields, Source, put_fields};
-use hsm_answers::laws::{checked_answer, checked_ask};
-use hsm_answers::{Checked, first_of, put_code};
-use hsm_auth::{Ask, Granted, Needs};
+use hsm_answers::laws::{planned, planned_answer};
+use hsm_answers::{Checked, empty_ask, first_of, put_code};
+use hsm_auth::{Ask, Granted};
 use hsm_rows::{Code, Module, Row, read_fields};
 use hsm_text::Reply;
 use hsm_types::Scheme;
@@ -38,19 +38,6 @@ impl<'m> KeyPlan<'m> {
     }
 }
 
-// The ask of a message that is refused before its entry.
-fn empty_ask() -> Ask
-    ensures { result ≡ empty_ask }
-{
-    Ask::Use {
-        needs: Needs {
-            first: None,
-            second: None,
-        },
-        words: 0,
-    }
-}
-
 // Reply fields that are never written.
 fn no_fields() -> KeyFields
     ensures { CanMake result }
@@ -71,7 +58,7 @@ pub fn prepare<'m>(module: &Module, row: &'static Row, text: &'m [u8]) -> KeyPla
     ensures may { CanAsk (plan_ask result) }
     ensures plan { IsPlanOf «module».now result }
 {
-    checked_ask();
+    planned();
     let command = command_of(row);
     match read_fields(row, text) {
         Err(code) => KeyPlan {
@@ -127,7 +114,7 @@ pub fn finish(module: &Module, plan: &KeyPlan<'_>, granted: &Granted, reply: &mu
     requires room { length reply.old ≤ 255 }
     ensures { reply.new ≡ reply.old ++ answer «module».now (plan_row plan.now) (plan_text plan.now) granted.now }
 {
-    checked_answer();
+    planned_answer();
     let good = put_code(plan.row, &plan.checked, granted, reply);
     put_good(good, module, &plan.fields, first_of(granted), reply);
     reply.put(plan.trailer);

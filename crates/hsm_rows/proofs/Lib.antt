@@ -5,3 +5,6 @@ pub mod ReadBack
 pub mod Refusals
 pub mod PlaceLemmas
 pub mod RowLemmas
+pub mod TextForms
+pub mod StandingTexts
+pub mod ConsoleStands

@@ -3,6 +3,8 @@ pub mod Table
 pub mod Forms
 pub mod Reading
 pub mod Places
+pub mod Standing
+pub mod ConsoleStanding
 pub mod Rules
 pub mod Bounds
 pub mod Clear

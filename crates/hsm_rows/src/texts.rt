@@ -87,8 +87,8 @@ pub fn decimal_value(text: &[u8]) -> u32
     }
 }
 
-// The value of two decimal digits, else 0.
-pub(crate) fn two_digit_value(text: &[u8]) -> usize
+/// The value of two decimal digits. For a text of another length it is 0.
+pub fn two_digit_value(text: &[u8]) -> usize
     ensures { result ≡ two_digit_value text.now }
 {
     match text {
@@ -297,8 +297,8 @@ pub(crate) fn validation(rest: &[u8]) -> Option<usize>
     }
 }
 
-// How many bytes stand before the next space or the end.
-fn token_run(rest: &[u8]) -> usize
+/// How many bytes stand before the next space or the end.
+pub fn token_run(rest: &[u8]) -> usize
     ensures run { result ≡ prefix_len is_no_space rest.now }
     ensures within { result ≤ length rest.now }
 {

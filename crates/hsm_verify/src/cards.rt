@@ -39,7 +39,8 @@ pub fn pvv(a: &Key, b: &Key, account: &[u8; 12], index: u8, pin: &Pin) -> [u8; 4
     requires b { length b.now ≡ 1 }
     requires account { IsTrue (list_all is_decimal account.now) }
     requires index { index < 10 }
-    ensures { result ≡ pvv a.now b.now account.now index pin.now }
+    ensures value { result ≡ pvv a.now b.now account.now index pin.now }
+    ensures decimal { IsTrue (list_all is_decimal result) }
 {
     let digits = pvv_digits(account, index, pin.digits());
     let all = select_all(pair_of(a, b).encipher(block_of(&digits)));
@@ -71,7 +72,8 @@ pub fn cvv(a: &Key, b: &Key, pan: &[u8], expiry: &[u8; 4], service: &[u8; 3]) ->
     requires pan { IsTrue (list_all is_decimal pan.now) }
     requires expiry { IsTrue (list_all is_decimal expiry.now) }
     requires service { IsTrue (list_all is_decimal service.now) }
-    ensures { result ≡ cvv a.now b.now pan.now expiry.now service.now }
+    ensures value { result ≡ cvv a.now b.now pan.now expiry.now service.now }
+    ensures decimal { IsTrue (list_all is_decimal result) }
 {
     let digits = cvv_digits(pan, expiry, service);
     let mut first = [0; 16];

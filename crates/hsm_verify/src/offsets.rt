@@ -1,6 +1,7 @@
 //! The 3624 method: natural PINs, offsets and the tables that it takes.
 ghost use Rattle.std.specs.Prelude.{◌≡◌, ◌≤◌, ◌↔◌, IsTrue, count_by, length, nat_le, nat_lt};
 ghost use Rattle.std.specs.List.{list_all};
+ghost use Rattle.std.specs.Int.Digits.{AllBelowBase};
 ghost use Rattle.hsm_types.specs.Pins.{is_decimal};
 ghost use Rattle.hsm_verify.specs.Values.{digit_counts, natural_pin, offset, table_ok};
 
@@ -25,7 +26,8 @@ pub fn natural_pin(pvk: &Key, table: &[u8; 16], validation: u64) -> [u8; 16]
 /// entries.
 pub fn offset(natural: &[u8; 16], pin: &Pin, check: usize) -> [u8; 12]
     requires { check ≤ length pin.now }
-    ensures { result ≡ offset natural.now pin.now check }
+    ensures value { result ≡ offset natural.now pin.now check }
+    ensures bounds { AllBelowBase 16 result }
 {
     let digits = pin.digits();
     let mut out = [15; 12];

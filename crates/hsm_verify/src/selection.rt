@@ -1,5 +1,6 @@
 //! The decimal digits that a block gives.
-ghost use Rattle.std.specs.Prelude.{◌≡◌, ◌≤◌, ◌-◌, ◌++◌, filter, length, map, replicate, take};
+ghost use Rattle.std.specs.Prelude.{◌≡◌, ◌≤◌, ◌-◌, ◌++◌, filter, length, map, replicate, take, IsTrue};
+ghost use Rattle.std.specs.List.{list_all};
 ghost use Rattle.hsm_types.specs.Pins.{is_decimal};
 ghost use Rattle.hsm_verify.specs.Values.{is_letter, selected};
 
@@ -37,7 +38,8 @@ fn take_letters(nibbles: &[u8; 16], decimals: usize, out: &mut [u8; 16])
 
 // All sixteen selected digits.
 pub(crate) fn select_all(block: u64) -> [u8; 16]
-    ensures { result ≡ selected block }
+    ensures value { result ≡ selected block }
+    ensures decimal { IsTrue (list_all is_decimal result) }
 {
     let nibbles = nibbles_of(block);
     let mut out = [0; 16];

@@ -1,11 +1,11 @@
-use Rattle.std.proofs.Common.{◌≡◌, List, ℕ, ◌++◌, sym, ◌∙◌, ap, arith}
-use Rattle.std.specs.Prelude.{Bool, [], if◌then◌else◌}
+use Rattle.std.proofs.Common.{◌≡◌, List, ℕ, Bool, ◌++◌, ◌∙◌, ap, arith}
+use Rattle.std.specs.Prelude.{[], if◌then◌else◌, is_none}
+use Rattle.hsm_auth.specs.declared.entry.Granted.{Granted}
 use Rattle.hsm_answers.specs.Values.{first_of}
-use Rattle.hsm_answers.specs.Plans.{fault_at, fields_after, code_text}
+use Rattle.hsm_answers.specs.Plans.{fault_at}
 use Rattle.hsm_keycmd.specs.Plans.{plan_row, plan_text}
 use Rattle.hsm_keycmd.specs.Fields.{made_text}
 use Rattle.hsm_keycmd.proofs.CommandSteps.{host_row, reply_two}
-use Rattle.hsm_keycmd.proofs.PlanSteps.{fields_good, glued}
 use Rattle.hsm_keycmd.proofs.plan.finish.Goals as goal
 
 pub put_code-good-requires : goal.put_code-good-requires
@@ -23,7 +23,7 @@ put-requires c =
       c.requires.room,
       c.put_code-good.ensures.grown,
       c.put_good.ensures.grown,
-      c.requires.plan.short,
+      c.requires.plan.planned.short,
     )
 
 pub returns : goal.returns
@@ -31,16 +31,12 @@ returns c =
     let m = c.args.module.now in
     let plan = c.args.plan.now in
     let g = c.args.granted.now in
-    let old = c.args.reply.now in
     let row = plan_row plan in
-    let fault = fault_at plan.checked g in
-    let made = made_text m plan.fields (first_of g) in
-    let good : c.put_good.new.reply ≡ c.put_code-good.new.reply ++ fields_after fault made =
+    let coded = c.put_code-good.new.reply in
+    let fields : Granted → List ℕ = λ h. made_text m plan.fields (first_of h) in
+    let filled : c.put_good.new.reply ≡ coded ++ (if is_none (fault_at plan.checked g) then fields g else []) =
     c.put_good.ensures.text
-    ∙ (ap (λ (place : ℕ). c.put_code-good.new.reply ++ (if c.put_code-good.result then made_text m plan.fields place else [])) c.first_of.ensures
-    ∙ (ap (λ (b : Bool). c.put_code-good.new.reply ++ (if b then made else [])) c.put_code-good.ensures.good
-    ∙ ap (λ (x : List ℕ). c.put_code-good.new.reply ++ x) (fields_good fault made))) in
-    glued old row.reply (code_text fault) (fields_after fault made) plan.trailer.now c.put_code-good.new.reply c.put_good.new.reply c.put.new.self
-    c.put_code-good.ensures.text good c.put.ensures
-    ∙ ap (λ (x : List ℕ). old ++ x)
-    (sym (c.checked_answer.ensures m row (plan_text plan) g plan.checked made plan.trailer.now (host_row row c.requires.plan.key_row) c.requires.plan.checked (c.requires.plan.fields g)))
+    ∙ (ap (λ (place : ℕ). coded ++ (if c.put_code-good.result then made_text m plan.fields place else [])) c.first_of.ensures
+    ∙ ap (λ (good : Bool). coded ++ (if good then fields g else [])) c.put_code-good.ensures.good) in
+    c.planned_answer.ensures m row (plan_text plan) plan.ask plan.checked plan.trailer.now fields g c.args.reply.now coded c.put_good.new.reply c.put.new.self
+    (host_row row c.requires.plan.key_row) c.requires.plan.planned c.put_code-good.ensures.text filled c.put.ensures

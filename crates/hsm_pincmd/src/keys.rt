@@ -1,0 +1,107 @@
+//! The keys of the PIN commands.
+ghost use Rattle.std.specs.Prelude.{◌≡◌, None, ◌∷◌, [], length, IfOk};
+ghost use Rattle.hsm_types.specs.Schemes.{scheme_parts};
+ghost use Rattle.hsm_types.specs.declared.types.KeyType.{KeyType};
+ghost use Rattle.hsm_text.specs.KeyTexts.{scheme_of};
+ghost use Rattle.hsm_answers.specs.Keys.{first_code};
+ghost use Rattle.hsm_answers.specs.Values.{first_part, second_part};
+ghost use Rattle.hsm_answers.specs.Given.{code_in};
+ghost use Rattle.hsm_pincmd.specs.Values.{asked_of, type_fault, type_key};
+
+use hsm_answers::{Asked, KeyPair, check_key_pair, check_lmk_key};
+use hsm_lmk::LmkSet;
+use hsm_rows::Code;
+use hsm_tdes::Key;
+use hsm_types::KeyType;
+
+// A key, and the one that follows it.
+#[derive(Clone, Copy)]
+pub(crate) struct TwoKeys {
+    pub(crate) source: Key,
+    pub(crate) second: Key,
+}
+
+// A key, and the PVK pair that follows it.
+#[derive(Clone, Copy)]
+pub(crate) struct KeyAndPair {
+    pub(crate) source: Key,
+    pub(crate) pair: KeyPair,
+}
+
+// What is asked of a key of the type: its parity code alone is told.
+fn asked_of(ty: KeyType, parity: Code) -> Asked
+    ensures { result ≡ asked_of ty parity.0 }
+{
+    Asked {
+        ty,
+        wraps: false,
+        by_scheme: None,
+        by_rule: None,
+        parity,
+    }
+}
+
+// The key of a text under the LMK pair of the type, or the first code that holds of it.
+pub(crate) fn key_of(set: &LmkSet, ty: KeyType, parity: Code, text: &[u8]) -> Result<Key, Code>
+    ensures fault { code_in result ≡ type_fault set.now ty parity.0 text.now }
+    ensures key { IfOk result (λ key. key ≡ type_key set.now ty text.now) }
+{
+    check_lmk_key(set, &asked_of(ty, parity), text)
+}
+
+// The PVK pair of a text, or the first code that holds of it.
+pub(crate) fn pvk_pair(set: &LmkSet, parity: Code, text: &[u8]) -> Result<KeyPair, Code>
+    requires { scheme_parts (scheme_of text.now) ≡ 2 }
+    ensures fault { code_in result ≡ type_fault set.now KeyType.Tpk parity.0 text.now }
+    ensures first { IfOk result (λ pair. pair.first ≡ first_part (type_key set.now KeyType.Tpk text.now)) }
+    ensures second { IfOk result (λ pair. pair.second ≡ second_part (type_key set.now KeyType.Tpk text.now)) }
+    ensures first_part { IfOk result (λ pair. length pair.first ≡ 1) }
+    ensures second_part { IfOk result (λ pair. length pair.second ≡ 1) }
+{
+    check_key_pair(set, &asked_of(KeyType::Tpk, parity), text)
+}
+
+// The keys of two texts, of these types, or the first code that holds of the first of them that has one.
+pub(crate) fn two_keys(
+    set: &LmkSet,
+    first: KeyType,
+    source: &[u8],
+    then: KeyType,
+    second: &[u8],
+) -> Result<TwoKeys, Code>
+    ensures fault { code_in result ≡ first_code (type_fault set.now first 10 source.now ∷ type_fault set.now then 11 second.now ∷ []) }
+    ensures source { IfOk result (λ keys. keys.source ≡ type_key set.now first source.now) }
+    ensures second { IfOk result (λ keys. keys.second ≡ type_key set.now then second.now) }
+{
+    match key_of(set, first, Code(10), source) {
+        Ok(source) => match key_of(set, then, Code(11), second) {
+            Ok(second) => Ok(TwoKeys { source, second }),
+            Err(code) => Err(code),
+        },
+        Err(code) => Err(code),
+    }
+}
+
+// The key and the PVK pair of two texts, or the first code that holds of the first of them that has one.
+pub(crate) fn key_and_pair(
+    set: &LmkSet,
+    first: KeyType,
+    source: &[u8],
+    second: &[u8],
+) -> Result<KeyAndPair, Code>
+    requires { scheme_parts (scheme_of second.now) ≡ 2 }
+    ensures fault { code_in result ≡ first_code (type_fault set.now first 10 source.now ∷ type_fault set.now KeyType.Tpk 11 second.now ∷ []) }
+    ensures source { IfOk result (λ keys. keys.source ≡ type_key set.now first source.now) }
+    ensures first { IfOk result (λ keys. keys.pair.first ≡ first_part (type_key set.now KeyType.Tpk second.now)) }
+    ensures second { IfOk result (λ keys. keys.pair.second ≡ second_part (type_key set.now KeyType.Tpk second.now)) }
+    ensures first_part { IfOk result (λ keys. length keys.pair.first ≡ 1) }
+    ensures second_part { IfOk result (λ keys. length keys.pair.second ≡ 1) }
+{
+    match key_of(set, first, Code(10), source) {
+        Ok(source) => match pvk_pair(set, Code(11), second) {
+            Ok(pair) => Ok(KeyAndPair { source, pair }),
+            Err(code) => Err(code),
+        },
+        Err(code) => Err(code),
+    }
+}
