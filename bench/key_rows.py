@@ -10,109 +10,11 @@ script, so that its draws begin at place 0. The header is 0001, the seed is 32 z
 of refusals stand beside their messages here; all digits are computed. It needs the command openssl. Nothing of the
 crates is used.
 """
-import subprocess
 import sys
 
-TYPE_VARIANTS = [0x00, 0xA6, 0x5A, 0x6A, 0xDE, 0x2B, 0x50, 0x74, 0x9C, 0xFA]
-SCHEME_VARIANTS = {
-    "Z": [0], "P": [0, 0], "U": [0xA6, 0x5A], "T": [0x6A, 0xDE, 0x2B], "X": [0, 0], "Y": [0, 0, 0]}
-TYPES = {  # code: LMK pair, variant
-    "000": (2, 0), "001": (3, 0), "002": (7, 0), "402": (7, 4), "003": (8, 0), "008": (13, 0),
-    "009": (14, 0), "00A": (15, 0), "00B": (16, 0)}
-HEADER = b"0001"
-
-ONE = bytes.fromhex("0123456789ABCDEF")
-TWO = bytes.fromhex("0123456789ABCDEFFEDCBA9876543210")
-THREE = bytes.fromhex("0123456789ABCDEF23456789ABCDEF01456789ABCDEF0123")
-TWICE = ONE + ONE
-LATER_TWICE = TWO + TWO[8:]
-FIRST_AGAIN = TWO + ONE
-# A byte of even parity in the first part, and in the last one.
-EVEN_ONE = bytes.fromhex("0023456789ABCDEF")
-EVEN_TWO = bytes.fromhex("0123456789ABCDEFFEDCBA9876543211")
-
-
-def odd(byte):
-    return byte if bin(byte).count("1") % 2 else byte ^ 1
-
-
-def counted_pair(k):
-    """Pair k of set T: 8 bytes of 32 + 2k, then 8 of 96 + 2k, made odd."""
-    return bytes([odd(32 + 2 * k)] * 8 + [odd(96 + 2 * k)] * 8)
-
-
-def varied(key, place, variant):
-    return key[:place] + bytes([key[place] ^ variant]) + key[place + 1:]
-
-
-def run_openssl(words, text):
-    return subprocess.run(["openssl", "enc", *words, "-nopad"], input=text, capture_output=True, check=True).stdout
-
-
-def encipher(key, text):
-    """ECB under a key of one to three parts; a single part is given twice, which is DES."""
-    key = key * 2 if len(key) == 8 else key
-    return run_openssl([{16: "-des-ede", 24: "-des-ede3"}[len(key)], "-K", key.hex()], text)
-
-
-def tag(scheme):
-    return "" if scheme in "ZP" else scheme
-
-
-def wrapped(kek, scheme, key):
-    """The text of a key under a wrapping key."""
-    parts = [key[i:i + 8] for i in range(0, len(key), 8)]
-    assert len(parts) == len(SCHEME_VARIANTS[scheme])
-    return tag(scheme) + b"".join(
-        encipher(varied(kek, 8, variant), part)
-        for variant, part in zip(SCHEME_VARIANTS[scheme], parts)).hex().upper()
-
-
-def sealed(code, scheme, key):
-    """The text of a key under the LMK pair of its type."""
-    pair, variant = TYPES[code]
-    return wrapped(varied(counted_pair(pair), 0, TYPE_VARIANTS[variant]), scheme, key)
-
-
-def opens_even(code, text):
-    """Whether the text of scheme U, under the LMK pair of a type, opens to a key with a byte of even parity."""
-    pair, variant = TYPES[code]
-    wrapping = varied(counted_pair(pair), 0, TYPE_VARIANTS[variant])
-    parts = [bytes.fromhex(text[i:i + 16]) for i in (1, 17)]
-    key = b"".join(
-        run_openssl(["-d", "-des-ede", "-K", varied(wrapping, 8, by).hex()], part)
-        for by, part in zip(SCHEME_VARIANTS["U"], parts))
-    return any(byte != odd(byte) for byte in key)
-
-
-def check_value(key):
-    return encipher(key, bytes(8))[:3].hex().upper()
-
-
-def words(place, count):
-    """The ChaCha20 words of the zero seed from a place on, each as its four bytes, the least significant first.
-
-    OpenSSL reads the counter of blocks as the first 8 bytes of what it calls iv, and the stream as the last 8.
-    """
-    block = place // 16
-    stream = run_openssl(
-        ["-chacha20", "-K", bytes(32).hex(), "-iv", (block.to_bytes(8, "little") + bytes(8)).hex()], bytes(256))
-    start = 4 * (place - 16 * block)
-    return stream[start:start + 4 * count]
-
-
-def drawn(place, parts):
-    """The key whose words begin at the place."""
-    key = []
-    for i in range(parts):
-        part = bytes(odd(byte) for byte in words(place + 2 * i, 2))
-        if key and part == key[-1]:
-            part = bytes(byte ^ 0xF0 for byte in part)
-        key.append(part)
-    return b"".join(key)
-
-
-PARTS = {"Z": 1, "U": 2, "X": 2, "T": 3, "Y": 3}
+from hsm_values import (
+    EVEN_ONE, EVEN_TWO, FIRST_AGAIN, LATER_TWICE, ONE, PARTS, THREE, TWICE, TWO, check_value, drawn, opens_even,
+    print_groups, sealed, wrapped)
 
 
 class Group:
@@ -332,7 +234,6 @@ def trailers():
           trailer=longest)
     g.add("A8001" + zmk + sealed("001", "U", EVEN_TWO) + "X", "A911", trailer=b"\x19end")
     g.add("ZZ", "Z[68", trailer=b"\x19end", repeated=b"")
-    g.add("NC", "ND68", trailer=b"\x19end", repeated=b"")
     return g
 
 
@@ -360,41 +261,5 @@ def draws():
 GROUPS = {"a0": a0, "a6": a6, "a8": a8, "bu": bu, "trailers": trailers, "draws": draws}
 
 
-def check_known():
-    """Values that stand elsewhere, for this script itself."""
-    assert check_value(TWO) == "08D7B4"
-    assert check_value(ONE) == "D5D44F"
-    assert drawn(0, 2).hex().upper() == "76B9E0ADA1F13D91405D6BE55286BC29"
-    assert drawn(4, 2).hex().upper() == "BCD319B9A18CEC1AA837EFCD8A760DC7"
-    assert encipher(bytes.fromhex("133457799BBCDFF1"), ONE).hex().upper() == "85E813540F0AB405"
-
-
-def line(text):
-    body = HEADER + text
-    return "L1 " + (len(body).to_bytes(2, "big") + body).hex().upper()
-
-
-def literal(text):
-    """The text as a byte string."""
-    out = "".join(chr(b) if 32 <= b < 127 and b not in b'"\\' else f"\\x{b:02X}" for b in text)
-    return f'b"{out}"'
-
-
-def main(names):
-    check_known()
-    what = names.pop(0) if names and names[0] in ("cases", "script", "output") else "cases"
-    for name in names or GROUPS:
-        cases = GROUPS[name]().cases
-        if what == "cases":
-            print(f"# {name}: {len(cases)} messages")
-            for message, answer in cases:
-                print(f"({literal(message)}, {literal(answer)}),")
-        elif what == "script":
-            print("\n".join(line(message) for message, _ in cases))
-        else:
-            print("\n".join(line(answer) for _, answer in cases))
-            print(f"END {len(cases)}")
-
-
 if __name__ == "__main__":
-    main(sys.argv[1:])
+    print_groups(GROUPS, sys.argv[1:])

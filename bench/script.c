@@ -1,10 +1,13 @@
-// The DES work of the messages that bench/script times, over libcrypto: TURNS turns of four messages under LMK set T.
+// The DES work of the messages that bench/script times, over libcrypto, without anything else that they need.
 //
-// A schedule is made for each different single-part key that a message meets, and is kept within the message alone:
-// those of the LMKs, which never change, could be kept over all messages, and a program that keeps them does less. A
-// block is one single-part DES. Three of them in a row, as a key of two parts needs, are done in one call of
-// libcrypto, which is its fastest form. The two texts of a key with tag U share the schedule of the wrapping key's
-// first part.
+//     script keys TURNS        the key messages: TURNS turns of four
+//     script pins FILE ROUNDS  the PIN and card messages: those of FILE, which bench/load.py wrote, ROUNDS times over
+//
+// All are under LMK set T. A schedule is made once for each different single part of a key that is used in opening or
+// sealing a key, or in enciphering under one, and is kept for no longer: those of the LMKs, which never change, could be
+// kept over all messages, and a program that keeps them does less. A block is one single-part DES. Three of them in a
+// row, as a key of two parts needs, are done in one call of libcrypto, which is its fastest form. The two texts of a
+// key with tag U share the schedule of the wrapping key's first part.
 //
 //     message                                     schedules                          blocks
 //     A0 of 001, U: seal; check value             3 + 2                  = 5         6 + 3          = 9
@@ -12,9 +15,20 @@
 //         seal (U), check value                   3 + 2 + 3 + 2          = 10        6 + 6 + 6 + 3  = 21
 //     BU of 001, single: open, check value        2 + 1                  = 3         3 + 1          = 4
 //     BU of 002, two parts: open (U), check value 3 + 2                  = 5         6 + 3          = 9
+//     CA, CC: open both keys (U), decipher the
+//         block, encipher the other one           3 + 3 + 2 + 2          = 10        6 + 6 + 3 + 3  = 18
+//     DA, EA: open both keys (U), decipher the
+//         block, encipher the validation data     3 + 3 + 2 + 2          = 10        6 + 6 + 3 + 3  = 18
+//     DC, EC: open the key (U) and the pair
+//         (untagged), decipher the block, PVV     3 + 2 + 2 + 2          = 9         6 + 6 + 3 + 3  = 18
+//     CY: open the pair (untagged), one block
+//         under its first key, CVV                2 + 2                  = 4         6 + 1 + 3      = 10
 //
-// A turn has 23 schedules and 43 blocks. The key that A0 draws is stood for by digits that change with each turn: its
-// drawing is no DES work. The program prints the answers to the last three messages, without header.
+// A turn of key messages has 23 schedules and 43 blocks; the key that A0 draws is stood for by digits that change with
+// each turn, since its drawing is no DES work, and the answers to the last three messages are printed, without header.
+// Seven PIN and card messages have 62 schedules and 118 blocks. How a PIN is taken out of its block and put into another
+// is no DES work: the exclusive-or of the two clear blocks stands in FILE, and so do the blocks that the work must come
+// to. The number of messages that came to them is printed.
 #define OPENSSL_SUPPRESS_DEPRECATED
 #include <openssl/des.h>
 #include <stdint.h>
@@ -90,14 +104,20 @@ static void open_plain(const Part wrapping[2], const Part *in, int parts, Part *
         triple(in[i], &first, &second, 0, out[i]);
 }
 
-// The zero block under a key of two parts: 2 schedules and 3 blocks.
-static void check_two(const Part key[2], Part out)
+// One block under a key of two parts, or its inverse: 2 schedules and 3 blocks.
+static void under_two(const Part key[2], const Part in, int enciphers, Part out)
 {
     DES_key_schedule first, second;
-    const Part zero = {0};
     schedule_of(key[0], 0, &first);
     schedule_of(key[1], 0, &second);
-    triple(zero, &first, &second, 1, out);
+    triple(in, &first, &second, enciphers, out);
+}
+
+// The zero block under a key of two parts.
+static void check_two(const Part key[2], Part out)
+{
+    const Part zero = {0};
+    under_two(key, zero, 1, out);
 }
 
 // The zero block under a single part: 1 schedule and 1 block.
@@ -116,9 +136,8 @@ static void print_bytes(const unsigned char *bytes, int count)
         printf("%02X", bytes[i]);
 }
 
-int main(int count, char **arguments)
+static int key_messages(long turns)
 {
-    const long turns = count == 2 ? strtol(arguments[1], NULL, 10) : 0;
     Part pair_of_zmk[2], pair_of_zpk[2], pair_of_tmk[2];
     memset(pair_of_zmk[0], 0x25, 8), memset(pair_of_zmk[1], 0x64, 8);
     memset(pair_of_zpk[0], 0x26, 8), memset(pair_of_zpk[1], 0x67, 8);
@@ -143,8 +162,6 @@ int main(int count, char **arguments)
         by_scheme_u(pair_of_tmk, double_text, 0, key);
         check_two(key, double_value);
     }
-    if (turns < 1)
-        return 1;
     printf("A700U");
     print_bytes(imported[0], 16);
     print_bytes(imported_value, 3);
@@ -155,4 +172,99 @@ int main(int count, char **arguments)
     printf("\n");
     // A use of what A0's part came to, so that no compiler leaves it out.
     return drawn[0][0] == sealed[0][0] ? 0 : 1;
+}
+
+static void exclusive_or(Part to, const Part by)
+{
+    for (int i = 0; i < 8; i++)
+        to[i] ^= by[i];
+}
+
+// The keys of FILE in their order, and its messages.
+enum { PAIR_002, PAIR_001, PAIR_402, TPK, ZPK, OTHER_ZPK, PVK, PVK_PAIR, CVK_PAIR, KEYS };
+enum { CA, CC, DA, EA, DC, EC, CY };
+
+typedef struct {
+    unsigned char kind;
+    Part given, second, wanted[2];
+} Message;
+
+typedef struct {
+    unsigned char count[4];
+    Part keys[KEYS][2];
+    Message messages[];
+} Load;
+
+// CVV: the first block under the first key of the pair, then its exclusive-or with the second block under both.
+static void card_value(const Part pair[2], const Message *message, Part made[2])
+{
+    DES_key_schedule first, second;
+    DES_LONG words[2];
+    schedule_of(pair[0], 0, &first);
+    schedule_of(pair[1], 0, &second);
+    words_of(message->given, words);
+    DES_encrypt1(words, &first, DES_ENCRYPT);
+    bytes_of(words, made[0]);
+    exclusive_or(made[0], message->second);
+    triple(made[0], &first, &second, 1, made[1]);
+}
+
+// The work of a message: the deciphered block, or what the CVV enciphers last, and what is enciphered at the end.
+static void work_of(const Load *load, const Message *message, Part made[2])
+{
+    const Part(*keys)[2] = load->keys;
+    Part key[2], other[2], in;
+    if (message->kind == CY) {
+        open_plain(keys[PAIR_402], keys[CVK_PAIR], 2, key);
+        card_value(key, message, made);
+        return;
+    }
+    if (message->kind == CA || message->kind == DA || message->kind == DC)
+        by_scheme_u(keys[PAIR_002], keys[TPK], 0, key);
+    else
+        by_scheme_u(keys[PAIR_001], keys[ZPK], 0, key);
+    if (message->kind == CA || message->kind == CC)
+        by_scheme_u(keys[PAIR_001], keys[message->kind == CA ? ZPK : OTHER_ZPK], 0, other);
+    else if (message->kind == DA || message->kind == EA)
+        by_scheme_u(keys[PAIR_002], keys[PVK], 0, other);
+    else
+        open_plain(keys[PAIR_002], keys[PVK_PAIR], 2, other);
+    under_two(key, message->given, 0, made[0]);
+    memcpy(in, message->second, 8);
+    if (message->kind == CA || message->kind == CC)
+        exclusive_or(in, made[0]);
+    under_two(other, in, 1, made[1]);
+}
+
+static int pin_messages(const char *name, long rounds)
+{
+    FILE *file = fopen(name, "rb");
+    static unsigned char bytes[1 << 22];
+    const size_t size = file ? fread(bytes, 1, sizeof bytes, file) : 0;
+    const Load *load = (const Load *)bytes;
+    const unsigned char *n = load->count;
+    const size_t count = n[0] | (size_t)n[1] << 8 | (size_t)n[2] << 16 | (size_t)n[3] << 24;
+    if (size != sizeof(Load) + count * sizeof(Message))
+        return 1;
+    size_t good = 0;
+    for (long round = 0; round < rounds; round++) {
+        good = 0;
+        for (size_t i = 0; i < count; i++) {
+            Part made[2];
+            work_of(load, &load->messages[i], made);
+            good += memcmp(made, load->messages[i].wanted, sizeof made) == 0;
+        }
+    }
+    printf("%zu\n", good);
+    return 0;
+}
+
+int main(int count, char **arguments)
+{
+    const long times = count > 2 ? strtol(arguments[count - 1], NULL, 10) : 0;
+    if (times >= 1 && count == 3 && !strcmp(arguments[1], "keys"))
+        return key_messages(times);
+    if (times >= 1 && count == 4 && !strcmp(arguments[1], "pins"))
+        return pin_messages(arguments[2], times);
+    return 1;
 }

@@ -1,14 +1,12 @@
 // The LMK sets of the test laboratory, and runs of scripts and messages under them.
-ghost use Rattle.std.specs.Prelude.{IfSome};
-ghost use Rattle.hsm_session.specs.Plans.{IsBuilt};
-
+use arrayvec::ArrayVec;
 use hsm_auth::Ledger;
 use hsm_io::MemSink;
 use hsm_lmk::LmkSet;
 use hsm_nibbles::hex_character;
 use hsm_parity::adjust;
 use hsm_rows::Module;
-use hsm_session::{ScriptEnd, ScriptFault, script_run, unbuilt};
+use hsm_session::{ScriptEnd, ScriptFault, script_run};
 use hsm_types::Permits;
 use itoa::Buffer;
 use std::alloc::{Alloc, AllocError, Global};
@@ -23,6 +21,19 @@ const PAIR_E: [u8; 16] = [
 // Both halves are 0123456789ABCDEF.
 const PAIR_14: [u8; 16] = [
     0x01, 0x23, 0x45, 0x67, 0x89, 0xAB, 0xCD, 0xEF, 0x01, 0x23, 0x45, 0x67, 0x89, 0xAB, 0xCD, 0xEF,
+];
+
+// The SHA-256 digests of the officers' words, abc and hello.
+const OFFICERS: [[u8; 32]; 2] = [ABC, HELLO];
+
+const ABC: [u8; 32] = [
+    0xBA, 0x78, 0x16, 0xBF, 0x8F, 0x01, 0xCF, 0xEA, 0x41, 0x41, 0x40, 0xDE, 0x5D, 0xAE, 0x22, 0x23,
+    0xB0, 0x03, 0x61, 0xA3, 0x96, 0x17, 0x7A, 0x9C, 0xB4, 0x10, 0xFF, 0x61, 0xF2, 0x00, 0x15, 0xAD,
+];
+
+const HELLO: [u8; 32] = [
+    0x2C, 0xF2, 0x4D, 0xBA, 0x5F, 0xB0, 0xA3, 0x0E, 0x26, 0xE8, 0x3B, 0x2A, 0xC5, 0xB9, 0xE2, 0x9E,
+    0x1B, 0x16, 0x1E, 0x5C, 0x1F, 0xA7, 0x42, 0x5E, 0x73, 0x04, 0x33, 0x62, 0x93, 0x8B, 0x98, 0x24,
 ];
 
 #[derive(Clone, Copy)]
@@ -48,17 +59,15 @@ fn pairs_of(set: Set) -> [[u8; 16]; 20] {
     pairs
 }
 
-// The module of a set, with the zero seed. No test names an officer's word.
-fn module_of(set: Set) -> Option<Module>
-    ensures { IfSome result IsBuilt }
-{
+// The module of a set, with so many hosts and the zero seed.
+fn module_of(set: Set, hosts: u8) -> Option<Module> {
     Some(Module {
         lmk: LmkSet::of(&pairs_of(set)).ok()?,
         permits: Permits::table(),
-        disabled: unbuilt(),
+        disabled: ArrayVec::new(),
         header: 4,
-        hosts: 2,
-        officers: [[0; 32]; 2],
+        hosts,
+        officers: OFFICERS,
         seed: [0; 32],
     })
 }
@@ -71,7 +80,26 @@ pub(crate) fn end_of(entries: u64, cut: u32, short: u32) -> Result<ScriptEnd, Sc
     })
 }
 
-// Runs a script over a new ledger, and compares what it printed and how it ended.
+// Runs a script under a set with so many hosts over a new ledger, and compares what it printed and how it ended.
+pub(crate) fn runs_on(
+    rt: &(impl Abort + Alloc<A = Global>),
+    set: Set,
+    hosts: u8,
+    script: &[u8],
+    output: &[u8],
+    ended: Result<ScriptEnd, ScriptFault>,
+) -> Result<(), Fail> {
+    let alloc = rt.alloc();
+    let module = module_of(set, hosts).ok_or("module")?;
+    let mut ledger = Ledger::new(alloc)?;
+    let mut out = MemSink::new(alloc, output.len() + 1_000, Vec::new(alloc))?;
+    let run = script_run(alloc, &module, &mut ledger, script, &mut out);
+    assert_eq!(rt; out.bytes(), output);
+    assert_eq!(rt; run, ended);
+    Ok(())
+}
+
+// The same with two hosts.
 pub(crate) fn runs(
     rt: &(impl Abort + Alloc<A = Global>),
     set: Set,
@@ -79,14 +107,7 @@ pub(crate) fn runs(
     output: &[u8],
     ended: Result<ScriptEnd, ScriptFault>,
 ) -> Result<(), Fail> {
-    let alloc = rt.alloc();
-    let module = module_of(set).ok_or("module")?;
-    let mut ledger = Ledger::new(alloc)?;
-    let mut out = MemSink::new(alloc, 20_000, Vec::new(alloc))?;
-    let run = script_run(alloc, &module, &mut ledger, script, &mut out);
-    assert_eq!(rt; out.bytes(), output);
-    assert_eq!(rt; run, ended);
-    Ok(())
+    runs_on(rt, set, 2, script, output, ended)
 }
 
 // Appends bytes as upper-case hexadecimal digits.
@@ -109,10 +130,11 @@ fn push_line(lines: &mut Vec<u8>, text: &[u8]) -> Result<(), AllocError> {
     Ok(())
 }
 
-// Runs messages in their order, one a line, under set T over a new ledger, and compares their answers. Both are
-// given without header.
-pub(crate) fn answers(
+// Runs messages in their order, one a line, under a set over a new ledger, and compares their answers. Both are given
+// without header.
+pub(crate) fn answers_under(
     rt: &(impl Abort + Alloc<A = Global>),
+    set: Set,
     cases: &[(&[u8], &[u8])],
 ) -> Result<(), Fail> {
     let alloc = rt.alloc();
@@ -126,5 +148,32 @@ pub(crate) fn answers(
     output.extend_from_slice(b"END ")?;
     output.extend_from_slice(Buffer::new().format(entries).as_bytes())?;
     output.push(b'\n')?;
-    runs(rt, Set::T, &script, &output, end_of(entries, 0, 0))
+    runs(rt, set, &script, &output, end_of(entries, 0, 0))
+}
+
+// The same under set T.
+pub(crate) fn answers(
+    rt: &(impl Abort + Alloc<A = Global>),
+    cases: &[(&[u8], &[u8])],
+) -> Result<(), Fail> {
+    answers_under(rt, Set::T, cases)
+}
+
+// Runs the lines of a script under a set over a new ledger, and compares what they print and how the script ended. With
+// each line stands what it prints.
+pub(crate) fn prints(
+    rt: &(impl Abort + Alloc<A = Global>),
+    set: Set,
+    cases: &[(&str, &str)],
+    ended: Result<ScriptEnd, ScriptFault>,
+) -> Result<(), Fail> {
+    let alloc = rt.alloc();
+    let mut script = Vec::new(alloc);
+    let mut output = Vec::new(alloc);
+    for (line, printed) in cases {
+        script.extend_from_slice(line.as_bytes())?;
+        script.push(b'\n')?;
+        output.extend_from_slice(printed.as_bytes())?;
+    }
+    runs(rt, set, &script, &output, ended)
 }

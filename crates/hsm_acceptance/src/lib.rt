@@ -2,8 +2,18 @@
 #![tactic(auto)]
 
 #[cfg(test)]
+mod cards;
+#[cfg(test)]
+mod consoles;
+#[cfg(test)]
+mod diagnostics;
+#[cfg(test)]
 mod keys;
 #[cfg(test)]
 mod laboratory;
+#[cfg(test)]
+mod macs;
+#[cfg(test)]
+mod pins;
 #[cfg(test)]
 mod scripts;

@@ -5,3 +5,5 @@ pub mod Repeats
 pub mod DigitTexts
 pub mod PairLengths
 pub mod DrawSteps
+pub mod ClearAnswers
+pub mod Officers

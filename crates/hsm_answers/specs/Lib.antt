@@ -9,3 +9,4 @@ pub mod Answers
 pub mod Messages
 pub mod Given
 pub mod Plans
+pub mod Clear

@@ -63,8 +63,8 @@ pub fn scheme_named(letter: &[u8]) -> Scheme
     }
 }
 
-// The bytes that hexadecimal digits name, two digits a byte.
-fn bytes_in(digits: &[u8]) -> ArrayVec<u8, 24>
+/// The bytes that at most 48 hexadecimal digits name, two digits a byte.
+pub fn bytes_in(digits: &[u8]) -> ArrayVec<u8, 24>
     requires short { length digits.now ≤ 48 }
     requires hexadecimal { IsTrue (list_all is_ascii_hexdigit digits.now) }
     ensures bytes { result.items ≡ bytes_of_hex digits.now }

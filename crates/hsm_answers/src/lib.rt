@@ -1,6 +1,7 @@
 //! What each command of the table asks and answers: the definitions, and the code that the command crates share.
 #![tactic(auto)]
 
+mod clear;
 mod draws;
 mod fields;
 mod keys;
@@ -9,10 +10,11 @@ mod needs;
 mod plans;
 mod texts;
 
+pub use clear::{clear_where_granted, words_authorise};
 pub use draws::{draw_fill, draw_key, draw_pin, word};
 pub use fields::{block, characters, compared, digit_values, digits, put_block};
 pub use keys::{
-    Asked, KeyPair, check_key_pair, check_lmk_key, check_wrapped_key, check_wrapping_key,
+    Asked, KeyPair, bytes_in, check_key_pair, check_lmk_key, check_wrapped_key, check_wrapping_key,
     flag_parts, repeats_part, scheme_named, type_by_pair, type_of_code, wrapper_type,
 };
 pub use needs::{host_activity, need_by};

@@ -7,3 +7,4 @@ pub mod PlaceLemmas
 pub mod RowLemmas
 pub mod TextForms
 pub mod StandingTexts
+pub mod ConsoleStands

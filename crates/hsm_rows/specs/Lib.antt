@@ -4,6 +4,7 @@ pub mod Forms
 pub mod Reading
 pub mod Places
 pub mod Standing
+pub mod ConsoleStanding
 pub mod Rules
 pub mod Bounds
 pub mod Clear

@@ -4,10 +4,11 @@ ghost use Rattle.std.specs.List.{list_all};
 ghost use Rattle.hsm_rows.specs.declared.row.Form.{Form};
 ghost use Rattle.hsm_rows.specs.declared.row.Code.{Code};
 ghost use Rattle.hsm_rows.specs.Forms.{size};
-ghost use Rattle.hsm_rows.specs.Table.{RowShape, all_rows};
+ghost use Rattle.hsm_rows.specs.Table.{RowShape, all_rows, row_A, row_FK};
 ghost use Rattle.hsm_rows.specs.Bounds.{has_few_fields, has_few_needs};
 ghost use Rattle.hsm_rows.specs.Reading.{ReadText, reading, RowReads, RowRefuses, is_console};
 ghost use Rattle.hsm_rows.specs.Standing.{TextsStand, AreTexts};
+ghost use Rattle.hsm_rows.specs.ConsoleStanding.{AuthorisationStands, ComponentsStand};
 ghost use Rattle.hsm_rows.specs.Clear.{OnlyNgAndGcShow, MarksAreShown, NgNeeds, GcNeeds};
 
 /// Each text has by each row just one answer: one reading, or one code that refuses it.
@@ -26,6 +27,12 @@ pub fn sizes_fit()
 pub fn texts_stand()
     ensures stand { (row : RowShape) (text : List ℕ) (r : ReadText) → is_console row ≡ false → reading row text ≡ Ok r → TextsStand row.fields r.texts }
     ensures are { (row : RowShape) (text : List ℕ) (r : ReadText) → is_console row ≡ false → reading row text ≡ Ok r → AreTexts row.fields r.texts }
+{}
+
+/// What the texts of an authorisation and of a key's components are, where the row read them.
+pub fn console_texts_stand()
+    ensures authorisation { (text : List ℕ) (r : ReadText) → reading row_A text ≡ Ok r → AuthorisationStands r }
+    ensures components { (text : List ℕ) (r : ReadText) → reading row_FK text ≡ Ok r → ComponentsStand r }
 {}
 
 /// No row but NG and GC has a reply field that shows a clear key or PIN; these two need an activity.

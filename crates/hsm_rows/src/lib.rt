@@ -10,13 +10,15 @@ mod settings;
 mod table;
 mod texts;
 
-pub use laws::{clear_marks, few_fields_and_needs, one_reading, sizes_fit, texts_stand};
+pub use laws::{
+    clear_marks, console_texts_stand, few_fields_and_needs, one_reading, sizes_fit, texts_stand,
+};
 pub use listing::explain;
 pub use read::{Fields, read_fields};
 pub use row::{Code, Field, Form, Public, Row, Secret};
 pub use settings::Module;
 pub use table::{ROWS, console_row, row_of, rows};
-pub use texts::{decimal_value, digit, same_text, text_at, two_digit_value};
+pub use texts::{decimal_value, digit, same_text, text_at, token_run, two_digit_value};
 
 #[cfg(test)]
 mod tests;

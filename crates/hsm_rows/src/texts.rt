@@ -297,8 +297,8 @@ pub(crate) fn validation(rest: &[u8]) -> Option<usize>
     }
 }
 
-// How many bytes stand before the next space or the end.
-fn token_run(rest: &[u8]) -> usize
+/// How many bytes stand before the next space or the end.
+pub fn token_run(rest: &[u8]) -> usize
     ensures run { result ≡ prefix_len is_no_space rest.now }
     ensures within { result ≤ length rest.now }
 {

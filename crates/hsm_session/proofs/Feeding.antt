@@ -12,41 +12,43 @@ use Rattle.hsm_auth.specs.declared.ledger.Ledger.{Ledger}
 use Rattle.hsm_rows.specs.declared.settings.Module.{Module}
 use Rattle.hsm_session.specs.Booking.{answer_lines, Books, BooksAll}
 use Rattle.hsm_session.specs.Runs.{piece_text, after_answers, short_line, closed_line}
-use Rattle.hsm_session.specs.Lanes.{Drains, IsBehind, FeedsPiece, end_of}
+use Rattle.hsm_session.specs.Lanes.{Drains, IsBehind, FeedsPiece, end_of, lane_end}
 use Rattle.hsm_session.specs.declared.lane.Lane.{Lane}
 use Rattle.hsm_session.specs.declared.lane.Drained.{Drained}
 use Rattle.hsm_session.proofs.Answering.{each_append}
-use Rattle.hsm_session.proofs.BookingLaws.{books_none, books_twice}
+use Rattle.hsm_session.proofs.BookingLaws.{books_none, books_nothing, books_twice}
 
 -- A part of a piece was fed to an open lane and its messages were booked and answered. The lane is open, and waits.
-pub record Feeds (m : Module) (old new : Lane) (part : List ℕ) (was is : Ledger) (before after : List ℕ → Type 0) : Type 0 where
+pub record Feeds (m : Module) (moment : ℕ) (old new : Lane) (part : List ℕ) (answered : ℕ) (was is : Ledger) (before after : List ℕ → Type 0) : Type 0 where
   pub messages : List (List ℕ)
   pub split : old.frames.bytes ++ part ≡ flat_map frame messages ++ new.frames.bytes
   pub each : AllByRecursion (IsMessage old.frames.least) messages
+  pub number : new.number ≡ old.number
   pub least : new.frames.least ≡ old.frames.least
-  pub booked : BooksAll m messages was is before after
-  pub count : new.entries ≡ old.entries + length messages
-  pub spent : new.entries + length new.frames.bytes ≤ old.entries + length old.frames.bytes + length part
+  pub booked : BooksAll m old.number moment messages was is before after
+  pub count : answered ≡ length messages
+  pub spent : answered + length new.frames.bytes ≤ length old.frames.bytes + length part
 
-pub feeds_none : (m : Module) (old : Lane) (was : Ledger) (before : List ℕ → Type 0) → Feeds m old old [] was was before before
-feeds_none m old was before = record {
+pub feeds_none : (m : Module) (moment : ℕ) (old : Lane) (was : Ledger) (before : List ℕ → Type 0) → Feeds m moment old old [] 0 was was before before
+feeds_none m moment old was before = record {
   messages = [];
   split = append-nil old.frames.bytes;
   each = tt;
+  number = refl;
   least = refl;
-  booked = books_none m was before;
-  count = omega arith;
+  booked = books_none m old.number moment was before;
+  count = refl;
   spent = omega arith;
 }
 
 -- one more part
-pub feeds_more : (m : Module) (old mid new : Lane) (part next : List ℕ) (fed left : Held) (was between is : Ledger) (before now after : List ℕ → Type 0) (drained : Drained)
-    → Feeds m old mid part was between before now
+pub feeds_more : (m : Module) (moment : ℕ) (old mid new : Lane) (part next : List ℕ) (answered : ℕ) (fed left : Held) (was between is : Ledger) (before now after : List ℕ → Type 0) (drained : Drained)
+    → Feeds m moment old mid part answered was between before now
     → fed ≡ record { least = mid.frames.least; bytes = mid.frames.bytes ++ next }
-    → Drains m fed left between is now after drained
-    → new.frames ≡ left → new.entries ≡ mid.entries + drained.answered
-    → Feeds m old new (part ++ next) was is before after
-feeds_more m old mid new part next fed left was between is before now after drained f held d same count =
+    → Drains m mid.number moment fed left between is now after drained
+    → new.frames ≡ left → new.number ≡ mid.number
+    → Feeds m moment old new (part ++ next) (answered + drained.answered) was is before after
+feeds_more m moment old mid new part next answered fed left was between is before now after drained f held d same numbered =
     let fed_bytes : fed.bytes ≡ mid.frames.bytes ++ next = ap (λ (h : Held). h.bytes) held in
     let fed_least : fed.least ≡ mid.frames.least = ap (λ (h : Held). h.least) held in
     let new_bytes : new.frames.bytes ≡ left.bytes = ap (λ (h : Held). h.bytes) same in
@@ -63,10 +65,12 @@ feeds_more m old mid new part next fed left was between is before now after drai
           ∙ ap (λ (front : List ℕ). front ++ new.frames.bytes) (sym (flat_map-append frame f.messages d.messages));
       each = each_append old.frames.least f.messages d.messages f.each
           (subst (λ (n : ℕ). AllByRecursion (IsMessage n) d.messages) (fed_least ∙ f.least) d.each);
+      number = numbered ∙ f.number;
       least = ap (λ (h : Held). h.least) same ∙ d.least ∙ fed_least ∙ f.least;
-      booked = books_twice m f.messages d.messages was between is before now after f.booked d.booked;
-      count = omega (arith, count, d.count, f.count, length-append f.messages d.messages);
-      spent = omega (arith, count, d.spent, f.spent, length-append part next, ap length fed_bytes ∙ length-append mid.frames.bytes next, ap length new_bytes);
+      booked = books_twice m old.number moment f.messages d.messages was between is before now after f.booked
+          (subst (λ (n : ℕ). BooksAll m n moment d.messages between is now after) f.number d.booked);
+      count = omega (arith, f.count, d.count, length-append f.messages d.messages);
+      spent = omega (arith, d.spent, f.spent, length-append part next, ap length fed_bytes ∙ length-append mid.frames.bytes next, ap length new_bytes);
     }
 
 -- what is held of an open lane's stream, as its tail
@@ -83,35 +87,34 @@ short_more least n [] more short = absurd short
 short_more least n (high ∷ []) more short = absurd short
 short_more least n (high ∷ low ∷ rest) more short = short
 
-pub text_open : (m : Module) (h : List Entry) (held : List ℕ) (messages : List (List ℕ)) (after : StreamEnd)
-    → piece_text m h (end_of None held) messages after ≡ answer_lines m h messages ++ after_answers after
-text_open m h [] messages after = refl
-text_open m h (byte ∷ held) messages after = refl
+pub text_open : (m : Module) (lane moment : ℕ) (h : List Entry) (held : List ℕ) (messages : List (List ℕ)) (after : StreamEnd)
+    → piece_text m lane moment h (end_of None held) messages after ≡ answer_lines m lane moment h messages ++ after_answers lane after
+text_open m lane moment h [] messages after = refl
+text_open m lane moment h (byte ∷ held) messages after = refl
 
 -- booked messages, and what more is printed after them
-books_text : (m : Module) (h : List Entry) (messages : List (List ℕ)) (text more : List ℕ) (ledger : Ledger) (before between after : List ℕ → Type 0)
-    → Books m h messages (answer_lines m h messages) ledger before between → Appends between after more → answer_lines m h messages ++ more ≡ text
-    → Books m h messages text ledger before after
-books_text m h messages text more ledger before between after b printed is = record {
+books_text : (h more : List Entry) (text next whole : List ℕ) (ledger : Ledger) (before between after : List ℕ → Type 0)
+    → Books h more text ledger before between → Appends between after next → text ++ next ≡ whole → Books h more whole ledger before after
+books_text h more text next whole ledger before between after b printed is = record {
   stands = b.stands;
   legal = b.legal;
-  printed = subst (Appends before after) is (appends_twice before between after (answer_lines m h messages) more b.printed printed);
+  printed = subst (Appends before after) is (appends_twice before between after text next b.printed printed);
 }
 
 appends_nothing : (at : List ℕ → Type 0) → Appends at at []
 appends_nothing at = λ base b. subst at (sym (append-nil base)) b
 
-pub nothing_after : (held : List ℕ) → after_answers (end_of None held) ≡ []
-nothing_after [] = refl
-nothing_after (byte ∷ held) = refl
+pub nothing_after : (lane : ℕ) (held : List ℕ) → after_answers lane (end_of None held) ≡ []
+nothing_after lane [] = refl
+nothing_after lane (byte ∷ held) = refl
 
 -- a lane whose stream these bytes are, by what is held
-record IsOpen (lane : Lane) (fed : List ℕ) (messages : List (List ℕ)) : Type 0 where
-  whole : fed ≡ flat_map frame messages ++ lane.frames.bytes
-  each : AllByRecursion (IsMessage lane.frames.least) messages
-  waits : IsNotYet lane.frames.least lane.frames.bytes
+pub record IsOpen (lane : Lane) (fed : List ℕ) (messages : List (List ℕ)) : Type 0 where
+  pub whole : fed ≡ flat_map frame messages ++ lane.frames.bytes
+  pub each : AllByRecursion (IsMessage lane.frames.least) messages
+  pub waits : IsNotYet lane.frames.least lane.frames.bytes
 
-is_open : (lane : Lane) (fed : List ℕ) (messages : List (List ℕ)) → lane.short ≡ None → IsBehind lane fed messages → IsOpen lane fed messages
+pub is_open : (lane : Lane) (fed : List ℕ) (messages : List (List ℕ)) → lane.short ≡ None → IsBehind lane fed messages → IsOpen lane fed messages
 is_open lane fed messages none b =
     let tail = b.held none in
     record {
@@ -134,52 +137,55 @@ joined old mid fed part messages more whole split =
     ∙ ap (λ (front : List ℕ). front ++ mid.frames.bytes) (sym (flat_map-append frame messages more))
 
 -- a whole piece was fed, and the lane is open
-pub feeds_piece : (m : Module) (old new : Lane) (piece : List ℕ) (was is : Ledger) (before after : List ℕ → Type 0)
-    → old.short ≡ None → new.short ≡ None → Feeds m old new piece was is before after
+pub feeds_piece : (m : Module) (moment : ℕ) (old new : Lane) (piece : List ℕ) (answered : ℕ) (was is : Ledger) (before after : List ℕ → Type 0)
+    → old.short ≡ None → new.short ≡ None → Feeds m moment old new piece answered was is before after
     → (IsNotYet old.frames.least old.frames.bytes → IsNotYet old.frames.least new.frames.bytes) → length new.frames.bytes < 65537
-    → FeedsPiece m old new piece was is before after
-feeds_piece m old new piece was is before after opened stays f waits room = record {
+    → FeedsPiece m moment old new piece answered was is before after
+feeds_piece m moment old new piece answered was is before after opened stays f waits room = record {
+  number = f.number;
   least = f.least;
   spent = f.spent;
   answers = λ fed messages b.
       let lane = is_open old fed messages opened b in
       let ends = tail_waits old.frames.least new.frames.bytes (waits lane.waits) in
-      let text : (h : List Entry) → answer_lines m h f.messages ++ [] ≡ piece_text m h (end_of old.short old.frames.bytes) f.messages (end_of new.short new.frames.bytes) = λ h.
-      ap (λ (more : List ℕ). answer_lines m h f.messages ++ more)
-      (sym (nothing_after new.frames.bytes) ∙ ap (λ (s : Option ℕ). after_answers (end_of s new.frames.bytes)) (sym stays))
-      ∙ sym (text_open m h old.frames.bytes f.messages (end_of new.short new.frames.bytes))
-      ∙ ap (λ (s : Option ℕ). piece_text m h (end_of s old.frames.bytes) f.messages (end_of new.short new.frames.bytes)) (sym opened) in
+      let n = old.number in
+      let text : (h : List Entry) → answer_lines m n moment h f.messages ++ [] ≡ piece_text m n moment h (lane_end old) f.messages (lane_end new) = λ h.
+      ap (λ (more : List ℕ). answer_lines m n moment h f.messages ++ more)
+      (sym (nothing_after n new.frames.bytes) ∙ ap (λ (s : Option ℕ). after_answers n (end_of s new.frames.bytes)) (sym stays))
+      ∙ sym (text_open m n moment h old.frames.bytes f.messages (lane_end new))
+      ∙ ap (λ (s : Option ℕ). piece_text m n moment h (end_of s old.frames.bytes) f.messages (lane_end new)) (sym opened) in
       let behind : IsBehind new (fed ++ piece) (messages ++ f.messages) = record {
         tail = new.frames.bytes;
         whole = joined old new fed piece messages f.messages lane.whole f.split;
         each = subst (λ (n : ℕ). AllByRecursion (IsMessage n) (messages ++ f.messages)) (sym f.least)
             (each_append old.frames.least messages f.messages lane.each f.each);
-        ends = subst (λ (n : ℕ). IsTail n (end_of new.short new.frames.bytes) new.frames.bytes) (sym f.least)
+        ends = subst (λ (n : ℕ). IsTail n (lane_end new) new.frames.bytes) (sym f.least)
             (subst (λ (s : Option ℕ). IsTail old.frames.least (end_of s new.frames.bytes) new.frames.bytes) (sym stays) ends);
         held = λ none. refl;
         room = room;
-        count = omega (arith, f.count, b.count, length-append messages f.messages);
       } in
-      (f.messages, behind, λ h stands. books_text m h f.messages _ [] is before after after (f.booked h stands) (appends_nothing after) (text h));
+      (f.messages, behind, f.count, λ h stands. books_text h _ _ [] _ is before after after (f.booked h stands) (appends_nothing after) (text h));
 }
 
 -- a part of a piece was fed, and then a short frame closed the lane
-pub feeds_short : (m : Module) (old mid new : Lane) (piece part rest : List ℕ) (n : ℕ) (was is : Ledger) (before between after : List ℕ → Type 0)
-    → old.short ≡ None → piece ≡ part ++ rest → Feeds m old mid part was is before between → IsShort old.frames.least n mid.frames.bytes
-    → new.short ≡ Some n → new.entries ≡ mid.entries → new.frames ≡ record { least = mid.frames.least; bytes = [] } → Appends between after (short_line n)
-    → FeedsPiece m old new piece was is before after
-feeds_short m old mid new piece part rest n was is before between after opened parts f short closed entries cleared printed =
+pub feeds_short : (m : Module) (moment : ℕ) (old mid new : Lane) (piece part rest : List ℕ) (answered n : ℕ) (was is : Ledger) (before between after : List ℕ → Type 0)
+    → old.short ≡ None → piece ≡ part ++ rest → Feeds m moment old mid part answered was is before between → IsShort old.frames.least n mid.frames.bytes
+    → new.short ≡ Some n → new.number ≡ mid.number → new.frames ≡ record { least = mid.frames.least; bytes = [] } → Appends between after (short_line mid.number n)
+    → FeedsPiece m moment old new piece answered was is before after
+feeds_short m moment old mid new piece part rest answered n was is before between after opened parts f short closed numbered cleared printed =
     let least : new.frames.least ≡ old.frames.least = ap (λ (h : Held). h.least) cleared ∙ f.least in
     let bytes : new.frames.bytes ≡ [] = ap (λ (h : Held). h.bytes) cleared in
+    let k = old.number in
     record {
+      number = numbered ∙ f.number;
       least = least;
-      spent = omega (arith, f.spent, entries, ap length bytes, ap length parts ∙ length-append part rest);
+      spent = omega (arith, f.spent, ap length bytes, ap length parts ∙ length-append part rest);
       answers = λ fed messages b.
           let lane = is_open old fed messages opened b in
-          let text : (h : List Entry) → answer_lines m h f.messages ++ short_line n ≡ piece_text m h (end_of old.short old.frames.bytes) f.messages (end_of new.short new.frames.bytes) = λ h.
-          ap (λ (s : Option ℕ). answer_lines m h f.messages ++ after_answers (end_of s new.frames.bytes)) (sym closed)
-          ∙ sym (text_open m h old.frames.bytes f.messages (end_of new.short new.frames.bytes))
-          ∙ ap (λ (s : Option ℕ). piece_text m h (end_of s old.frames.bytes) f.messages (end_of new.short new.frames.bytes)) (sym opened) in
+          let text : (h : List Entry) → answer_lines m k moment h f.messages ++ short_line k n ≡ piece_text m k moment h (lane_end old) f.messages (lane_end new) = λ h.
+          ap (λ (s : Option ℕ). answer_lines m k moment h f.messages ++ after_answers k (end_of s new.frames.bytes)) (sym closed)
+          ∙ sym (text_open m k moment h old.frames.bytes f.messages (lane_end new))
+          ∙ ap (λ (s : Option ℕ). piece_text m k moment h (end_of s old.frames.bytes) f.messages (lane_end new)) (sym opened) in
           let behind : IsBehind new (fed ++ piece) (messages ++ f.messages) = record {
             tail = mid.frames.bytes ++ rest;
             whole =
@@ -189,25 +195,27 @@ feeds_short m old mid new piece part rest n was is before between after opened p
                 ∙ append_assoc (flat_map frame (messages ++ f.messages)) mid.frames.bytes rest;
             each = subst (λ (k : ℕ). AllByRecursion (IsMessage k) (messages ++ f.messages)) (sym least)
                 (each_append old.frames.least messages f.messages lane.each f.each);
-            ends = subst (λ (k : ℕ). IsTail k (end_of new.short new.frames.bytes) (mid.frames.bytes ++ rest)) (sym least)
+            ends = subst (λ (k : ℕ). IsTail k (lane_end new) (mid.frames.bytes ++ rest)) (sym least)
                 (subst (λ (s : Option ℕ). IsTail old.frames.least (end_of s new.frames.bytes) (mid.frames.bytes ++ rest)) (sym closed)
                 (short_more old.frames.least n mid.frames.bytes rest short));
             held = λ none. absurd (cc);
             room = omega (arith, ap length bytes);
-            count = omega (arith, f.count, entries, b.count, length-append messages f.messages);
           } in
-          (f.messages, behind, λ h stands. books_text m h f.messages _ (short_line n) is before between after (f.booked h stands) printed (text h));
+          let printed_there : Appends between after (short_line k n) = subst (λ (j : ℕ). Appends between after (short_line j n)) f.number printed in
+          (f.messages, behind, f.count, λ h stands. books_text h _ _ (short_line k n) _ is before between after (f.booked h stands) printed_there (text h));
     }
 
 -- a piece came after a short frame had closed the lane
-pub feeds_closed : (m : Module) (old : Lane) (piece : List ℕ) (n : ℕ) (was : Ledger) (before after : List ℕ → Type 0)
-    → old.short ≡ Some n → Appends before after closed_line → FeedsPiece m old old piece was was before after
-feeds_closed m old piece n was before after closed printed = record {
+pub feeds_closed : (m : Module) (moment : ℕ) (old : Lane) (piece : List ℕ) (n : ℕ) (was : Ledger) (before after : List ℕ → Type 0)
+    → old.short ≡ Some n → Appends before after (closed_line old.number) → FeedsPiece m moment old old piece 0 was was before after
+feeds_closed m moment old piece n was before after closed printed = record {
+  number = refl;
   least = refl;
   spent = omega arith;
   answers = λ fed messages b.
-      let text : (h : List Entry) → closed_line ≡ piece_text m h (end_of old.short old.frames.bytes) [] (end_of old.short old.frames.bytes) = λ h.
-      ap (λ (s : Option ℕ). piece_text m h (end_of s old.frames.bytes) [] (end_of old.short old.frames.bytes)) (sym closed) in
+      let k = old.number in
+      let text : (h : List Entry) → closed_line k ≡ piece_text m k moment h (lane_end old) [] (lane_end old) = λ h.
+      ap (λ (s : Option ℕ). piece_text m k moment h (end_of s old.frames.bytes) [] (lane_end old)) (sym closed) in
       let behind : IsBehind old (fed ++ piece) (messages ++ []) = record {
         tail = b.tail ++ piece;
         whole =
@@ -219,9 +227,8 @@ feeds_closed m old piece n was before after closed printed = record {
             (subst (λ (s : Option ℕ). IsTail old.frames.least (end_of s old.frames.bytes) b.tail) closed b.ends));
         held = λ none. absurd (cc);
         room = b.room;
-        count = omega (arith, b.count, length-append messages []);
       } in
-      ([], behind, λ h stands. books_text m h [] _ closed_line was before before after (books_none m was before h stands) printed (text h));
+      ([], behind, refl, λ h stands. books_text h [] [] (closed_line k) _ was before before after (books_nothing h was before stands) printed (text h));
 }
 
 -- one more part of a piece

@@ -1,142 +1,226 @@
 -- How far a run of a script has come.
-use Rattle.std.proofs.Common.{◌≡◌, ℕ, ◌+◌, length-append, List, [], ◌∷◌, ◌++◌, length, refl, sym, ap, subst, ◌∙◌, append-nil, append_assoc, Option, None, arith}
-use Rattle.hsm_frame.specs.Frames.{Frames, IsTail, StreamEnd, Whole, Part, Short}
-use Rattle.hsm_io.specs.Texts.{Appends}
-use Rattle.hsm_io.proofs.TextLemmas.{appends_twice}
-use Rattle.hsm_session.specs.declared.lane.Lane.{Lane}
-use Rattle.hsm_session.specs.declared.script.ScriptEnd.{ScriptEnd}
+use Rattle.std.proofs.Common.{◌≡◌, ℕ, ◌+◌, ◌≤◌, length-append, List, [], ◌∷◌, ◌++◌, length, map, count_by, slice_get, refl, sym, ap, subst, ◌∙◌, append-nil, append_assoc, Option, Some, None, arith}
+use Rattle.std.specs.Option.{option_map}
+use Rattle.std.proofs.lemmas.List.{length-map}
+use Rattle.std.proofs.lemmas.Option.{slice_get-map}
+use Rattle.hsm_frame.specs.Frames.{Frames, StreamEnd}
+use Rattle.hsm_io.specs.Texts.{Appends, AppendsFront}
+use Rattle.hsm_io.proofs.TextLemmas.{appends_then_front, appends_twice, front_of_more}
+use Rattle.hsm_frame.specs.Laws.{HasReading}
 use Rattle.hsm_auth.specs.declared.entry.Entry.{Entry}
 use Rattle.hsm_auth.specs.declared.ledger.Ledger.{Ledger}
 use Rattle.hsm_auth.specs.History.{IsLegal, StandsFor}
 use Rattle.hsm_rows.specs.declared.settings.Module.{Module}
+use Rattle.hsm_session.specs.declared.lane.Lane.{Lane}
+use Rattle.hsm_session.specs.declared.run.Run.{Run}
+use Rattle.hsm_session.specs.declared.script.ScriptEnd.{ScriptEnd}
 use Rattle.hsm_session.specs.Plans.{least_length}
-use Rattle.hsm_session.specs.Booking.{entries_of, IsKnown}
-use Rattle.hsm_session.specs.Runs.{Prints, Runs, piece_text, last_text, counts}
-use Rattle.hsm_session.proofs.BookingLaws.{length-entries}
-use Rattle.hsm_session.specs.Lanes.{IsBehind, FeedsPiece, end_of}
+use Rattle.hsm_session.specs.Scripts.{Said}
+use Rattle.hsm_session.specs.Booking.{IsKnown}
+use Rattle.hsm_session.specs.Runs.{AreEnds, Prints, Runs, Stops, Told, end_lines, got, is_cut, is_short, last_line}
+use Rattle.hsm_session.specs.Lanes.{BringBytes, Ends, IsAt, IsLaneAt, StopsLine, TakesLine, lane_end, run_end}
+use Rattle.hsm_session.proofs.Existence.{ends_exist, first_bring, prints_exist}
+use Rattle.hsm_session.proofs.Running.{framed}
 
--- Of a run after the history h: the history that the ledger stands for, with an entry for each of so many messages, what was written, and that what is printed for the later pieces follows it.
-pub record Written (m : Module) (h : List Entry) (pieces later messages : List (List ℕ)) (fed : List ℕ) (ledger : Ledger) (before now : List ℕ → Type 0) : Type 0 where
+-- Of a run after the history h: the history that the ledger stands for, what was written, and that what is printed for the later lines follows it.
+pub record Written (m : Module) (h : List Entry) (lines earlier later : List Said) (run : Run) (ledger : Ledger) (before now : List ℕ → Type 0) : Type 0 where
   pub last : List Entry
   pub text : List ℕ
   pub stands : StandsFor ledger last
   pub legal : IsLegal h → IsLegal last
-  pub entries : length last ≡ length h + length messages
+  pub booked : List Entry
+  pub begins : last ≡ h ++ booked
+  pub entries : run.entries ≡ length booked
   pub printed : Appends before now text
-  pub then_all : (end : List Entry) (rest : List ℕ) (over : ScriptEnd) → Prints m last fed later end rest over → Prints m h [] pieces end (text ++ rest) over
+  pub then_all : (end : List Entry) (rest : List ℕ) → Prints m last earlier later end rest → Prints m h [] lines end (text ++ rest)
 
--- The lane stands behind the pieces before, and for each history that the ledger stood for they were booked and printed.
-pub record SoFar (m : Module) (pieces later : List (List ℕ)) (lane : Lane) (was is : Ledger) (before now : List ℕ → Type 0) : Type 0 where
-  pub fed : List ℕ
-  pub messages : List (List ℕ)
-  pub behind : IsBehind lane fed messages
-  pub written : (h : List Entry) → StandsFor was h → Written m h pieces later messages fed is before now
+-- The run stands behind the lines before, and for each history that the ledger stood for they were booked and printed.
+pub record SoFar (m : Module) (lines later : List Said) (run : Run) (was is : Ledger) (before now : List ℕ → Type 0) : Type 0 where
+  pub earlier : List Said
+  pub all : earlier ++ later ≡ lines
+  pub at : IsAt m run earlier
+  pub written : (h : List Entry) → StandsFor was h → Written m h lines earlier later run is before now
 
-framed : (lane : Lane) (fed : List ℕ) (messages : List (List ℕ)) (least : ℕ) → lane.frames.least ≡ least → IsBehind lane fed messages
-    → Frames least fed messages (end_of lane.short lane.frames.bytes)
-framed lane fed messages least is b =
-    subst (λ (n : ℕ). Frames n fed messages (end_of lane.short lane.frames.bytes)) is
-    (record { tail = b.tail; whole = b.whole; each = b.each; ends = b.ends })
-
--- a lane of which nothing came
-pub so_far_start : (m : Module) (pieces : List (List ℕ)) (lane : Lane) (was : Ledger) (before : List ℕ → Type 0)
-    → lane.short ≡ None → lane.frames.bytes ≡ [] → lane.entries ≡ 0 → SoFar m pieces pieces lane was was before before
-so_far_start m pieces lane was before is_open empty none = record {
-  fed = [];
-  messages = [];
-  behind = record {
-    tail = [];
-    whole = refl;
-    each = tt;
-    ends = subst (λ (held : List ℕ). IsTail lane.frames.least (end_of lane.short held) []) (sym empty)
-        (subst (λ (s : Option ℕ). IsTail lane.frames.least (end_of s []) []) (sym is_open) refl);
-    held = λ open_lane. sym empty;
-    room = omega (arith, ap length empty);
-    count = none;
-  };
+-- no line was taken
+pub so_far_start : (m : Module) (lines : List Said) (run : Run) (was : Ledger) (before : List ℕ → Type 0)
+    → IsAt m run [] → run.entries ≡ 0 → SoFar m lines lines run was was before before
+so_far_start m lines run was before at none = record {
+  earlier = [];
+  all = refl;
+  at = at;
   written = λ h stands. record {
     last = h;
     text = [];
     stands = stands;
     legal = λ legal. legal;
-    entries = omega arith;
+    booked = [];
+    begins = sym (append-nil h);
+    entries = none;
     printed = λ base b. subst before (sym (append-nil base)) b;
-    then_all = λ end rest over p. p;
+    then_all = λ end rest p. p;
   };
 }
 
--- one more piece
-pub so_far_next : (m : Module) (pieces later : List (List ℕ)) (piece : List ℕ) (old new : Lane) (was between is : Ledger) (before mid after : List ℕ → Type 0)
-    → old.frames.least ≡ least_length m → SoFar m pieces (piece ∷ later) old was between before mid → FeedsPiece m old new piece between is mid after
-    → SoFar m pieces later new was is before after
-so_far_next m pieces later piece old new was between is before mid after least s feeds =
-    let f = feeds.answers s.fed s.messages s.behind in
+-- one more line
+pub so_far_next : (m : Module) (lines later : List Said) (line : Said) (old new : Run) (was between is : Ledger) (before mid after : List ℕ → Type 0)
+    → SoFar m lines (line ∷ later) old was between before mid → TakesLine m old new line between is mid after
+    → SoFar m lines later new was is before after
+so_far_next m lines later line old new was between is before mid after s takes =
+    let taken = takes.answers s.earlier s.at in
     record {
-      fed = s.fed ++ piece;
-      messages = s.messages ++ f.0;
-      behind = f.1;
+      earlier = s.earlier ++ line ∷ [];
+      all = append_assoc s.earlier (line ∷ []) later ∙ s.all;
+      at = taken.0;
       written = λ h stands.
           let w = s.written h stands in
-          let books = f.2 w.last w.stands in
-          let text = piece_text m w.last (end_of old.short old.frames.bytes) f.0 (end_of new.short new.frames.bytes) in
+          let t = taken.1 w.last w.stands in
           record {
-            last = w.last ++ entries_of m w.last f.0;
-            text = w.text ++ text;
-            stands = books.stands;
-            legal = λ legal. books.legal (w.legal legal);
-            entries = omega (arith, w.entries, length-append w.last (entries_of m w.last f.0), length-entries m w.last f.0, length-append s.messages f.0);
-            printed = appends_twice before mid after w.text text w.printed books.printed;
-            then_all = λ end rest over p.
-                subst (λ (t : List ℕ). Prints m h [] pieces end t over) (sym (append_assoc w.text text rest))
-                (w.then_all end (text ++ rest) over (
-                  s.messages,
-                  end_of old.short old.frames.bytes,
-                  f.0,
-                  end_of new.short new.frames.bytes,
-                  rest,
-                  framed old s.fed s.messages (least_length m) least s.behind,
-                  framed new (s.fed ++ piece) (s.messages ++ f.0) (least_length m) (feeds.least ∙ least) f.1,
-                  refl,
-                  p,
-                ));
+            last = w.last ++ t.0;
+            text = w.text ++ t.1;
+            stands = t.3.stands;
+            legal = λ legal. t.3.legal (w.legal legal);
+            booked = w.booked ++ t.0;
+            begins = ap (λ (es : List Entry). es ++ t.0) w.begins ∙ append_assoc h w.booked t.0;
+            entries = omega (arith, w.entries, t.4, length-append w.booked t.0);
+            printed = appends_twice before mid after w.text t.1 w.printed t.3.printed;
+            then_all = λ end rest p.
+                subst (λ (text : List ℕ). Prints m h [] lines end text) (sym (append_assoc w.text t.1 rest))
+                (w.then_all end (t.1 ++ rest) (t.0, t.1, rest, t.2, refl, p));
           };
     }
 
 -- the ledger stands for some history still
-pub so_far_known : (m : Module) (pieces later : List (List ℕ)) (lane : Lane) (was is : Ledger) (before now : List ℕ → Type 0)
-    → SoFar m pieces later lane was is before now → IsKnown was → IsKnown is
-so_far_known m pieces later lane was is before now s known =
+pub so_far_known : (m : Module) (lines later : List Said) (run : Run) (was is : Ledger) (before now : List ℕ → Type 0)
+    → SoFar m lines later run was is before now → IsKnown was → IsKnown is
+so_far_known m lines later run was is before now s known =
     let w = s.written known.0 known.1 in
     (w.last, w.stands)
 
--- the number of entries that is told
-counted : (end : StreamEnd) (entries : ℕ) → (counts end entries).entries ≡ entries
-counted Whole entries = refl
-counted Part entries = refl
-counted (Short n) entries = refl
+-- how the streams of the lanes end
+ends_at : (m : Module) (run : Run) (lines : List Said) → IsAt m run lines → AreEnds m lines (map lane_end run.lanes.items)
+ends_at m run lines at = record {
+  lanes = length-map run.lanes.items lane_end ∙ at.count;
+  each = λ i end is. of (slice_get run.lanes.items i) i end refl (sym (slice_get-map lane_end run.lanes.items i) ∙ is);
+}
+  where
+    of : (found : Option Lane) (i : ℕ) (end : StreamEnd) → slice_get run.lanes.items i ≡ found → option_map lane_end found ≡ Some end
+        → (messages : List (List ℕ)) × Frames (least_length m) (got (i + 1) lines) messages end
+    of None i end here is = absurd (cc)
+    of (Some lane) i end here is =
+        let lane_at = at.lanes i lane here in
+        let same : lane_end lane ≡ end = cc in (
+          lane_at.messages,
+          subst (Frames (least_length m) (got (i + 1) lines) lane_at.messages) same
+              (framed m (i + 1) (got (i + 1) lines) lane lane_at.messages lane_at.least lane_at.behind),
+        )
 
--- no piece is left
-pub so_far_done : (m : Module) (pieces : List (List ℕ)) (lane : Lane) (was is : Ledger) (before mid after : List ℕ → Type 0)
-    → lane.frames.least ≡ least_length m → SoFar m pieces [] lane was is before mid
-    → Appends mid after (last_text (end_of lane.short lane.frames.bytes) lane.entries)
-    → (h : List Entry) → StandsFor was h → Runs m h pieces (counts (end_of lane.short lane.frames.bytes) lane.entries) is before after
-so_far_done m pieces lane was is before mid after least s printed h stands =
-    let end = end_of lane.short lane.frames.bytes in
-    let text = last_text end lane.entries in
+-- no line is left
+pub so_far_done : (m : Module) (lines : List Said) (run : Run) (over : ScriptEnd) (was is : Ledger) (before mid after : List ℕ → Type 0)
+    → SoFar m lines [] run was is before mid → Ends run over mid after
+    → (h : List Entry) → StandsFor was h → Runs m h lines over is before after
+so_far_done m lines run over was is before mid after s ends h stands =
     let w = s.written h stands in
+    let all : s.earlier ≡ lines = sym (append-nil s.earlier) ∙ s.all in
+    let at : IsAt m run lines = subst (IsAt m run) all s.at in
+    let last = end_lines 1 (map lane_end run.lanes.items) ++ last_line run.entries in
     record {
       last = w.last;
-      text = w.text ++ text;
-      told = w.then_all w.last text (counts end lane.entries) (
-        s.messages,
-        end,
-        framed lane s.fed s.messages (least_length m) least s.behind,
-        refl,
-        ap (last_text end) s.behind.count,
-        ap (counts end) s.behind.count,
-      );
+      text = w.text ++ last;
+      told = record {
+        answers = w.text;
+        ends = map lane_end run.lanes.items;
+        printed = subst (λ (text : List ℕ). Prints m h [] lines w.last text) (append-nil w.text) (w.then_all w.last [] (refl, refl));
+        streams = ends_at m run lines at;
+        whole = sym (append_assoc w.text (end_lines 1 (map lane_end run.lanes.items)) (last_line run.entries))
+            ∙ ap (λ (n : ℕ). (w.text ++ end_lines 1 (map lane_end run.lanes.items)) ++ last_line n) (sym ends.entries);
+        booked = w.booked;
+        begins = w.begins;
+        entries = ends.entries ∙ w.entries;
+        cut = ends.cut;
+        short = ends.short;
+      };
       stands = w.stands;
       legal = w.legal;
-      entries = omega (arith, w.entries, s.behind.count, counted end lane.entries);
-      printed = appends_twice before mid after w.text text w.printed printed;
+      printed = appends_twice before mid after w.text last w.printed ends.printed;
+    }
+
+-- ---- where a write failed
+
+-- a line that was not wholly written
+pub so_far_stopped : HasReading → (m : Module) (lines later : List Said) (line : Said) (run : Run) (was between is : Ledger) (before mid after : List ℕ → Type 0)
+    → BringBytes lines → SoFar m lines (line ∷ later) run was between before mid → StopsLine m run line between is mid after
+    → (h : List Entry) → StandsFor was h → Stops m h lines is before after
+so_far_stopped read m lines later line run was between is before mid after bring s stops h stands =
+    let w = s.written h stands in
+    let earlier = s.earlier ++ line ∷ [] in
+    let split : earlier ++ later ≡ lines = append_assoc s.earlier (line ∷ []) later ∙ s.all in
+    let all = subst BringBytes (sym split) bring in
+    let t = stops s.earlier (first_bring earlier later all) s.at w.last w.stands in
+    let front = t.3 in
+    let p = prints_exist read m (w.last ++ t.0) earlier later all in
+    let ends = ends_exist read m lines bring in
+    let answers = w.text ++ (t.1 ++ p.text) in
+    let booked = w.booked ++ (t.0 ++ p.more) in
+    let over : ScriptEnd = record { entries = length booked; cut = count_by is_cut ends.0; short = count_by is_short ends.0 } in
+    let closing = end_lines 1 ends.0 ++ last_line over.entries in
+    let last = (w.last ++ t.0) ++ p.more in
+    let begins : last ≡ h ++ booked = append_assoc w.last t.0 p.more ∙ ap (λ (es : List Entry). es ++ (t.0 ++ p.more)) w.begins ∙ append_assoc h w.booked (t.0 ++ p.more) in
+    record {
+      last = last;
+      text = answers ++ closing;
+      over = over;
+      told = record {
+        answers = answers;
+        ends = ends.0;
+        printed = w.then_all last (t.1 ++ p.text) (t.0, t.1, p.text, t.2, refl, p.prints);
+        streams = ends.1;
+        whole = sym (append_assoc answers (end_lines 1 ends.0) (last_line over.entries));
+        booked = booked;
+        begins = begins;
+        entries = refl;
+        cut = refl;
+        short = refl;
+      };
+      booked = w.booked ++ front.booked;
+      missing = front.missing ++ p.more;
+      begins =
+          ap (λ (es : List Entry). (w.last ++ es) ++ p.more) front.begins ∙ ap (λ (es : List Entry). (es ++ (front.booked ++ front.missing)) ++ p.more) w.begins
+          ∙ simp append_assoc;
+      stands = subst (StandsFor is) (ap (λ (es : List Entry). es ++ front.booked) w.begins ∙ append_assoc h w.booked front.booked) front.stands;
+      legal = λ legal. subst IsLegal (ap (λ (es : List Entry). es ++ front.booked) w.begins ∙ append_assoc h w.booked front.booked) (front.legal (w.legal legal));
+      printed = front_of_more before after answers closing
+          (appends_then_front before mid after w.text (t.1 ++ p.text) w.printed (front_of_more mid after t.1 p.text front.printed));
+    }
+
+-- the lines at the end were not wholly written
+pub so_far_cut : (m : Module) (lines : List Said) (run : Run) (was is : Ledger) (before mid after : List ℕ → Type 0)
+    → SoFar m lines [] run was is before mid → AppendsFront mid after (run_end run)
+    → (h : List Entry) → StandsFor was h → Stops m h lines is before after
+so_far_cut m lines run was is before mid after s front h stands =
+    let w = s.written h stands in
+    let all : s.earlier ≡ lines = sym (append-nil s.earlier) ∙ s.all in
+    let ends = map lane_end run.lanes.items in
+    let over : ScriptEnd = record { entries = run.entries; cut = count_by is_cut ends; short = count_by is_short ends } in
+    record {
+      last = w.last;
+      text = w.text ++ run_end run;
+      over = over;
+      told = record {
+        answers = w.text;
+        ends = ends;
+        printed = subst (λ (text : List ℕ). Prints m h [] lines w.last text) (append-nil w.text) (w.then_all w.last [] (refl, refl));
+        streams = ends_at m run lines (subst (IsAt m run) all s.at);
+        whole = sym (append_assoc w.text (end_lines 1 ends) (last_line run.entries));
+        booked = w.booked;
+        begins = w.begins;
+        entries = w.entries;
+        cut = refl;
+        short = refl;
+      };
+      booked = w.booked;
+      missing = [];
+      begins = w.begins ∙ sym (append-nil (h ++ w.booked));
+      stands = subst (StandsFor is) w.begins w.stands;
+      legal = λ legal. subst IsLegal w.begins (w.legal legal);
+      printed = appends_then_front before mid after w.text (run_end run) w.printed front;
     }

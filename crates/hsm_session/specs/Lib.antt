@@ -4,3 +4,4 @@ pub mod Scripts
 pub mod Runs
 pub mod Lanes
 pub mod Reading
+pub mod Clear

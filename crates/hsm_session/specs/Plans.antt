@@ -1,5 +1,7 @@
 -- What a message comes to before its entry.
-use Rattle.std.specs.Prelude.{◌≡◌, ℕ, ◌+◌, ◌≤◌, List, length, Some, None, [], ◌∷◌, codes}
+use Rattle.std.specs.Prelude.{◌≡◌, ℕ, ◌+◌, ◌≤◌, if◌then◌else◌, List, [], ◌∷◌, length, Option, Some, None, codes}
+use Rattle.std.specs.Str.{bytes_eq}
+use Rattle.std.specs.List.{list_any}
 use Rattle.hsm_auth.specs.declared.entry.Ask.{Ask}
 use Rattle.hsm_rows.specs.declared.settings.Module.{Module}
 use Rattle.hsm_rows.specs.Table.{RowShape}
@@ -7,10 +9,17 @@ use Rattle.hsm_answers.specs.Asks.{empty_ask}
 use Rattle.hsm_answers.specs.Messages.{Side, host, console, command_of, text_after, enabled_row}
 use Rattle.hsm_keycmd.specs.Commands.{IsKeyRow}
 use Rattle.hsm_keycmd.specs.Plans as key
+use Rattle.hsm_pincmd.specs.Commands.{IsPinRow}
+use Rattle.hsm_pincmd.specs.Plans as pin
+use Rattle.hsm_datacmd.specs.Commands.{IsDataRow}
+use Rattle.hsm_datacmd.specs.Plans as held
+use Rattle.hsm_console.specs.Plans as officers
 use Rattle.hsm_session.specs.declared.plans.Kind.{Kind}
 use Rattle.hsm_session.specs.declared.plans.Kind.TheVariants.{Host, Console}
+use Rattle.hsm_session.specs.declared.families.Family.{Family}
+use Rattle.hsm_session.specs.declared.families.Family.TheVariants as family
 use Rattle.hsm_session.specs.declared.plans.Planned.{Planned}
-use Rattle.hsm_session.specs.declared.plans.Planned.TheVariants.{Unknown, Key}
+use Rattle.hsm_session.specs.declared.plans.Planned.TheVariants as planned
 use Rattle.hsm_session.specs.declared.plans.Plan.{Plan}
 
 -- the side of the command table that answers
@@ -22,38 +31,85 @@ side_of Console = console
 abbrev pub least_length : Module → ℕ
 least_length m = m.header + 2
 
--- each host row that the module doesn't disable is one that is built
-abbrev pub IsBuilt : Module → Type 0
-IsBuilt m = (code : List ℕ) (row : RowShape) → enabled_row m host code ≡ Some row → IsKeyRow row
+-- the least length of a message: the console's have one byte
+abbrev pub least_for : Module → Kind → ℕ
+least_for m Host = least_length m
+least_for m Console = 1
 
--- the codes of the host rows that are not built
-abbrev pub unbuilt : List (List ℕ)
-unbuilt =
-    codes "CA" ∷ codes "CC" ∷ codes "DE" ∷ codes "DG" ∷ codes "DA" ∷ codes "EA" ∷ codes "DC" ∷ codes "EC" ∷ codes "BA" ∷ codes "NG" ∷ codes "JA"
-    ∷ codes "CW" ∷ codes "CY" ∷ codes "M6" ∷ codes "M8" ∷ codes "B2" ∷ codes "NC" ∷ codes "NO" ∷ codes "RA" ∷ []
+-- the codes of the key commands
+abbrev pub key_codes : List (List ℕ)
+key_codes = codes "A0" ∷ codes "A6" ∷ codes "A8" ∷ codes "BU" ∷ []
+
+-- the codes of the PIN commands
+abbrev pub pin_codes : List (List ℕ)
+pin_codes =
+    codes "CA" ∷ codes "CC" ∷ codes "DE" ∷ codes "DG" ∷ codes "DA" ∷ codes "EA" ∷ codes "DC" ∷ codes "EC" ∷ codes "BA" ∷ codes "NG" ∷ codes "JA" ∷ []
+
+-- the family of the command of a host row, by its code
+abbrev pub family_by : List ℕ → Family
+family_by code =
+    if list_any (bytes_eq code) key_codes then family.Key
+    else if list_any (bytes_eq code) pin_codes then family.Pin
+    else family.Data
+
+-- the row is one of the family's
+abbrev pub IsOf : Family → RowShape → Type 0
+IsOf family.Key row = IsKeyRow row
+IsOf family.Pin row = IsPinRow row
+IsOf family.Data row = IsDataRow row
 
 -- the message of a plan
 abbrev pub plan_message : Plan → List ℕ
 plan_message plan = plan.message.now
 
+-- where the message of a plan comes from
+abbrev pub plan_kind : Plan → Kind
+plan_kind plan = plan.kind
+
 -- the ask of a command: nothing for one that is in no row
 abbrev pub planned_ask : Planned → Ask
-planned_ask Unknown = empty_ask
-planned_ask (Key plan) = key.plan_ask plan
+planned_ask planned.Unknown = empty_ask
+planned_ask (planned.Key plan) = key.plan_ask plan
+planned_ask (planned.Pin plan) = pin.plan_ask plan
+planned_ask (planned.Data plan) = held.plan_ask plan
+planned_ask (planned.Console plan) = officers.plan_ask plan
 
 -- the ask of a plan
 abbrev pub plan_ask : Plan → Ask
 plan_ask plan = planned_ask plan.planned
 
--- the command of the message has no row, or this is the plan of its row and its text
-abbrev pub IsPlanned : Module → List ℕ → Planned → Type 0
-IsPlanned m message Unknown = enabled_row m host (command_of m host message) ≡ None
-IsPlanned m message (Key plan) =
-    (enabled_row m host (command_of m host message) ≡ Some (key.plan_row plan))
-    × (key.plan_text plan ≡ text_after m host message)
-    × key.IsPlanOf m plan
+-- the row of a command, if it is in one
+abbrev pub planned_row : Planned → Option RowShape
+planned_row planned.Unknown = None
+planned_row (planned.Key plan) = Some (key.plan_row plan)
+planned_row (planned.Pin plan) = Some (pin.plan_row plan)
+planned_row (planned.Data plan) = Some (held.plan_row plan)
+planned_row (planned.Console plan) = Some (officers.plan_row plan)
+
+-- the text that its row read
+abbrev pub planned_text : Planned → List ℕ
+planned_text planned.Unknown = []
+planned_text (planned.Key plan) = key.plan_text plan
+planned_text (planned.Pin plan) = pin.plan_text plan
+planned_text (planned.Data plan) = held.plan_text plan
+planned_text (planned.Console plan) = officers.plan_text plan
+
+-- the plan is one that its crate gives for the module
+abbrev pub IsOwnPlan : Module → Planned → Type 0
+IsOwnPlan m planned.Unknown = Unit {0}
+IsOwnPlan m (planned.Key plan) = key.IsPlanOf m plan
+IsOwnPlan m (planned.Pin plan) = pin.IsPlanOf m plan
+IsOwnPlan m (planned.Data plan) = held.IsPlanOf m plan
+IsOwnPlan m (planned.Console plan) = officers.IsPlanOf m plan
+
+-- the plan of a message: of the row of its command, if there is one, and of what follows the command
+pub record IsPlanned (m : Module) (side : Side) (message : List ℕ) (planned : Planned) : Type 0 where
+  pub row : planned_row planned ≡ enabled_row m side (command_of m side message)
+  pub text : (row : RowShape) → planned_row planned ≡ Some row → planned_text planned ≡ text_after m side message
+  pub own : IsOwnPlan m planned
 
 -- the plan is the one of its message in the module
 pub record IsPlanOf (m : Module) (plan : Plan) : Type 0 where
-  pub least : least_length m ≤ length (plan_message plan)
-  pub planned : IsPlanned m (plan_message plan) plan.planned
+  pub least : least_for m (plan_kind plan) ≤ length (plan_message plan)
+  pub most : length (plan_message plan) ≤ 65535
+  pub planned : IsPlanned m (side_of (plan_kind plan)) (plan_message plan) plan.planned

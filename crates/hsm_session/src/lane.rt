@@ -1,19 +1,23 @@
-//! The host lane of a script.
+//! A host lane of a script.
 
-ghost use Rattle.std.specs.Prelude.{◌≡◌, ◌+◌, ◌<◌, ◌≤◌, [], ◌++◌, length, OnOk, OnErr, IfOk, None, ◌∷◌, ◌^◌, decimal};
+ghost use Rattle.std.specs.Prelude.{◌≡◌, ◌+◌, ◌<◌, ◌≤◌, ◌∷◌, ◌++◌, ℕ, List, [], length, OnOk, OnErr, IfOk, None, codes};
 ghost use Rattle.arrayvec.specs.ArrayVec.{array_vec_len};
+ghost use Rattle.hsm_auth.specs.declared.entry.Entry.{Entry};
+ghost use Rattle.hsm_auth.specs.declared.entry.TheConstants.{MAX_MOMENT};
+ghost use Rattle.hsm_auth.specs.History.{StandsFor};
+ghost use Rattle.hsm_answers.specs.Messages.{console};
 ghost use Rattle.hsm_io.specs.Outside.{Rose};
-ghost use Rattle.hsm_io.specs.Texts.{Appends};
-ghost use Rattle.hsm_session.specs.Plans.{IsBuilt, least_length};
-ghost use Rattle.hsm_session.specs.Booking.{BooksAll, IsKnown};
-ghost use Rattle.hsm_session.specs.Runs.{counts, last_text, last_words, short_line};
-ghost use Rattle.hsm_session.specs.Lanes.{Drains, FeedsPiece, end_of};
+ghost use Rattle.hsm_io.specs.Texts.{Appends, AppendsFront};
+ghost use Rattle.hsm_session.specs.Plans.{least_for, least_length, side_of};
+ghost use Rattle.hsm_session.specs.Booking.{Books, BooksAll, BooksFront, BooksSome, IsAnswered, IsKnown, console_line, entry_of, lane_words, reply_line, reply_of};
+ghost use Rattle.hsm_session.specs.Runs.{closed_line, end_line, is_cut, is_short, last_line, short_line};
+ghost use Rattle.hsm_session.specs.Lanes.{Drains, FeedsPiece, StopsDraining, StopsPiece, lane_end};
 
 use crate::plans::{Kind, finish, prepare};
-use crate::script::ScriptEnd;
 use crate::text::{append, append_hex};
 use arrayvec::ArrayVec;
 use hsm_auth::Ledger;
+use hsm_frame::laws::has_one_reading;
 use hsm_frame::{Frames, Next, frame_into};
 use hsm_io::{OutFailed, Sink, write_all};
 use hsm_rows::Module;
@@ -25,15 +29,12 @@ use itoa::Buffer;
 pub struct Buffers {
     reply: Reply,
     frame: ArrayVec<u8, 65537>,
-    line: ArrayVec<u8, 131_080>,
+    line: ArrayVec<u8, 131_200>,
 }
 
 impl Buffers {
     /// Empty buffers.
-    pub fn new() -> Buffers
-        ensures frame { result.frame.items ≡ [] }
-        ensures line { result.line.items ≡ [] }
-    {
+    pub fn new() -> Buffers {
         Buffers {
             reply: Reply::new(),
             frame: ArrayVec::new(),
@@ -41,48 +42,149 @@ impl Buffers {
         }
     }
 
-    // Books the ask of a message and prints its answer.
+    // Books the ask of a message, and puts its answer in the place of the reply.
+    // A constant parameter that nothing reads: the toolchain has no plan for a value that holds a type with a lifetime in a function without parameters.
+    fn answer<const N: usize>(
+        &mut self,
+        module: &Module,
+        ledger: &mut Ledger,
+        kind: Kind,
+        moment: u64,
+        message: &[u8],
+    )
+        requires known { IsKnown ledger.old }
+        requires moment { moment ≤ MAX_MOMENT }
+        requires least { least_for «module».now kind ≤ length message.now }
+        requires most { length message.now ≤ 65535 }
+        ensures { (h : List Entry) → StandsFor ledger.old h → IsAnswered «module».now (side_of kind) moment message.now ledger.old ledger.new self.new.reply h }
+    {
+        let plan = prepare(module, kind, message);
+        let granted = ledger.step(moment, &plan.ask());
+        finish(module, &plan, &granted, &mut self.reply);
+    }
+
+    // Puts what each line of a host lane begins with in the place of the line.
+    fn begin_lane_line(&mut self, number: u32)
+        ensures line { self.new.line.items ≡ lane_words number }
+        ensures short { array_vec_len self.new.line ≤ 50 }
+        ensures reply { self.new.reply ≡ self.old.reply }
+        ensures frame { self.new.frame ≡ self.old.frame }
+    {
+        let mut digits = Buffer::new();
+        self.line.clear();
+        append(&mut self.line, b"L");
+        append(&mut self.line, digits.format(number).as_bytes());
+        append(&mut self.line, b" ");
+    }
+
+    // Books the ask of a message to a host lane, and prints its answer.
     fn print_answer<S: Sink>(
         &mut self,
         module: &Module,
         ledger: &mut Ledger,
+        number: u32,
+        moment: u64,
         message: &[u8],
         out: &mut S,
     ) -> Result<(), OutFailed>
-        requires built { IsBuilt «module».now }
         requires known { IsKnown ledger.old }
+        requires moment { moment ≤ MAX_MOMENT }
         requires least { least_length «module».now ≤ length message.now }
-        ensures booked { OnOk result (BooksAll «module».now (message.now ∷ []) ledger.old ledger.new (S.stands_for out.old) (S.stands_for out.new)) }
+        requires most { length message.now ≤ 65535 }
+        ensures booked { OnOk result (BooksAll «module».now number moment (message.now ∷ []) ledger.old ledger.new (S.stands_for out.old) (S.stands_for out.new)) }
+        ensures part { OnErr result (BooksSome «module».now number moment (message.now ∷ []) ledger.old ledger.new (S.stands_for out.old) (S.stands_for out.new)) }
         ensures failed { OnErr result (Rose (S.faults out.old) (S.faults out.new)) }
         ensures kept { OnOk result (S.faults out.new ≡ S.faults out.old) }
     {
-        let plan = prepare(module, Kind::Host, message);
-        let granted = ledger.step(0, &plan.ask());
-        finish(module, &plan, &granted, &mut self.reply);
+        self.answer::<0>(module, ledger, Kind::Host, moment, message);
         frame_into(self.reply.bytes(), &mut self.frame);
-        self.line.clear();
-        append(&mut self.line, b"L1 ");
+        self.begin_lane_line(number);
         append_hex(&mut self.line, &self.frame);
         append(&mut self.line, b"\n");
         write_all(out, &self.line)
     }
 
-    // Prints a text with a number before the end of its line.
-    fn print_number<S: Sink>(
+    /// Books the ask of a console text, and prints its answer.
+    pub fn print_console<S: Sink>(
         &mut self,
+        module: &Module,
+        ledger: &mut Ledger,
+        moment: u64,
         text: &[u8],
-        number: u64,
         out: &mut S,
     ) -> Result<(), OutFailed>
-        requires { length text.now ≤ 100 }
-        ensures ok { OnOk result (Appends (S.stands_for out.old) (S.stands_for out.new) (text.now ++ decimal number ++ 10 ∷ [])) }
+        requires known { IsKnown ledger.old }
+        requires moment { moment ≤ MAX_MOMENT }
+        requires least { 1 ≤ length text.now }
+        requires most { length text.now ≤ 65535 }
+        ensures booked { OnOk result ((h : List Entry) → StandsFor ledger.old h →
+            Books h (entry_of «module».now console moment h text.now ∷ []) (console_line (reply_of «module».now console moment h text.now))
+            ledger.new (S.stands_for out.old) (S.stands_for out.new)) }
+        ensures part { OnErr result ((h : List Entry) → StandsFor ledger.old h →
+            BooksFront h (entry_of «module».now console moment h text.now ∷ []) (console_line (reply_of «module».now console moment h text.now))
+            ledger.new (S.stands_for out.old) (S.stands_for out.new)) }
+        ensures failed { OnErr result (Rose (S.faults out.old) (S.faults out.new)) }
+        ensures kept { OnOk result (S.faults out.new ≡ S.faults out.old) }
+    {
+        self.answer::<0>(module, ledger, Kind::Console, moment, text);
+        self.line.clear();
+        append(&mut self.line, b"C ");
+        append(&mut self.line, self.reply.bytes());
+        append(&mut self.line, b"\n");
+        write_all(out, &self.line)
+    }
+
+    // Prints a line of a host lane.
+    fn print_words<S: Sink>(
+        &mut self,
+        number: u32,
+        words: &[u8],
+        out: &mut S,
+    ) -> Result<(), OutFailed>
+        requires { length words.now ≤ 100 }
+        ensures ok { OnOk result (Appends (S.stands_for out.old) (S.stands_for out.new) (lane_words number ++ words.now)) }
+        ensures front { OnErr result (AppendsFront (S.stands_for out.old) (S.stands_for out.new) (lane_words number ++ words.now)) }
+        ensures failed { OnErr result (Rose (S.faults out.old) (S.faults out.new)) }
+        ensures kept { OnOk result (S.faults out.new ≡ S.faults out.old) }
+    {
+        self.begin_lane_line(number);
+        append(&mut self.line, words);
+        write_all(out, &self.line)
+    }
+
+    // Prints that a frame of this length, which is below the least, closed a lane.
+    #[tactic(auto, unfolding(crate::specs::Runs::short_line))]
+    fn print_short<S: Sink>(
+        &mut self,
+        number: u32,
+        length: u64,
+        out: &mut S,
+    ) -> Result<(), OutFailed>
+        ensures ok { OnOk result (Appends (S.stands_for out.old) (S.stands_for out.new) (short_line number length)) }
+        ensures front { OnErr result (AppendsFront (S.stands_for out.old) (S.stands_for out.new) (short_line number length)) }
+        ensures failed { OnErr result (Rose (S.faults out.old) (S.faults out.new)) }
+        ensures kept { OnOk result (S.faults out.new ≡ S.faults out.old) }
+    {
+        let mut digits = Buffer::new();
+        self.begin_lane_line(number);
+        append(&mut self.line, b"short ");
+        append(&mut self.line, digits.format(length).as_bytes());
+        append(&mut self.line, b"\n");
+        write_all(out, &self.line)
+    }
+
+    /// Prints the last line, with the number of entries.
+    #[tactic(auto, unfolding(crate::specs::Runs::last_line))]
+    pub fn print_last<S: Sink>(&mut self, entries: u64, out: &mut S) -> Result<(), OutFailed>
+        ensures ok { OnOk result (Appends (S.stands_for out.old) (S.stands_for out.new) (last_line entries)) }
+        ensures front { OnErr result (AppendsFront (S.stands_for out.old) (S.stands_for out.new) (last_line entries)) }
         ensures failed { OnErr result (Rose (S.faults out.old) (S.faults out.new)) }
         ensures kept { OnOk result (S.faults out.new ≡ S.faults out.old) }
     {
         let mut digits = Buffer::new();
         self.line.clear();
-        append(&mut self.line, text);
-        append(&mut self.line, digits.format(number).as_bytes());
+        append(&mut self.line, b"END ");
+        append(&mut self.line, digits.format(entries).as_bytes());
         append(&mut self.line, b"\n");
         write_all(out, &self.line)
     }
@@ -95,35 +197,40 @@ struct Drained {
     short: Option<u64>,
 }
 
-/// What a lane's stream holds.
+/// A host lane: its number, and what its stream holds.
 #[derive(Drop)]
 pub struct Lane {
+    number: u32,
     frames: Frames,
     // The length of the frame that closed the lane, where one did.
     short: Option<u64>,
-    entries: u64,
 }
 
-// Books and answers the whole messages that are held.
+// Books and answers the whole messages that the lane of this number holds.
 fn answer_held<S: Sink>(
     module: &Module,
     ledger: &mut Ledger,
+    number: u32,
+    moment: u64,
     frames: &mut Frames,
     buffers: &mut Buffers,
     out: &mut S,
 ) -> Result<Drained, OutFailed>
-    requires built { IsBuilt «module».now }
     requires known { IsKnown ledger.old }
+    requires moment { moment ≤ MAX_MOMENT }
     requires least { frames.old.least ≡ least_length «module».now }
     requires room { length frames.old.bytes ≤ 65537 }
-    ensures drains { IfOk result (Drains «module».now frames.old frames.new ledger.old ledger.new (S.stands_for out.old) (S.stands_for out.new)) }
+    ensures drains { IfOk result (Drains «module».now number moment frames.old frames.new ledger.old ledger.new (S.stands_for out.old) (S.stands_for out.new)) }
+    ensures stops { OnErr result (StopsDraining «module».now number moment frames.old ledger.old ledger.new (S.stands_for out.old) (S.stands_for out.new)) }
     ensures failed { OnErr result (Rose (S.faults out.old) (S.faults out.new)) }
     ensures kept { OnOk result (S.faults out.new ≡ S.faults out.old) }
 {
     let mut answered = 0;
     'messages: loop {
         match frames.next() {
-            Next::Message(message) => buffers.print_answer(module, ledger, message, out)?,
+            Next::Message(message) => {
+                buffers.print_answer(module, ledger, number, moment, message, out)?
+            }
             Next::Short(length) => {
                 return Ok(Drained {
                     answered,
@@ -142,88 +249,92 @@ fn answer_held<S: Sink>(
 }
 
 impl Lane {
-    /// A lane of which nothing came yet.
-    pub fn new(frames: Frames) -> Lane
-        ensures { result ≡ record { frames = frames; short = None; entries = 0 } }
+    /// The lane of this number, of which nothing came yet.
+    pub fn new(number: u32, frames: Frames) -> Lane
+        ensures { result ≡ record { number = number; frames = frames; short = None } }
     {
         Lane {
+            number,
             frames,
             short: None,
-            entries: 0,
         }
     }
 
-    /// Feeds the piece of a line, books its messages, and prints what they are answered.
+    /// Feeds a piece, books its messages at the moment, and prints what they are answered. Answers how many they were.
     pub fn take_piece<S: Sink>(
         &mut self,
         module: &Module,
         ledger: &mut Ledger,
+        moment: u64,
         piece: &[u8],
         buffers: &mut Buffers,
         out: &mut S,
-    ) -> Result<(), OutFailed>
-        requires built { IsBuilt «module».now }
+    ) -> Result<u64, OutFailed>
         requires known { IsKnown ledger.old }
+        requires moment { moment ≤ MAX_MOMENT }
         requires least { self.old.frames.least ≡ least_length «module».now }
         requires held { length self.old.frames.bytes < 65537 }
-        requires room { self.old.entries + length self.old.frames.bytes + length piece.now < 2 ^ 64 }
-        ensures feeds { OnOk result (FeedsPiece «module».now self.old self.new piece.now ledger.old ledger.new (S.stands_for out.old) (S.stands_for out.new)) }
+        ensures feeds { IfOk result (λ answered. FeedsPiece «module».now moment self.old self.new piece.now answered ledger.old ledger.new (S.stands_for out.old) (S.stands_for out.new)) }
+        ensures stops { OnErr result (StopsPiece «module».now moment self.old piece.now ledger.old ledger.new (S.stands_for out.old) (S.stands_for out.new)) }
         ensures failed { OnErr result (Rose (S.faults out.old) (S.faults out.new)) }
         ensures kept { OnOk result (S.faults out.new ≡ S.faults out.old) }
     {
+        has_one_reading();
         if let Some(_) = self.short {
-            write_all(out, b"L1 closed\n")?;
-            return Ok(());
+            buffers.print_words(self.number, b"closed\n", out)?;
+            return Ok(0);
         }
+        let mut answered = 0;
         let mut rest = piece;
         'chunks: while !rest.is_empty() {
             let taken = self.frames.feed(rest);
-            let drained = answer_held(module, ledger, &mut self.frames, buffers, out)?;
-            self.entries += drained.answered;
+            let drained = answer_held(
+                module,
+                ledger,
+                self.number,
+                moment,
+                &mut self.frames,
+                buffers,
+                out,
+            )?;
+            answered += drained.answered;
             rest = &rest[taken..];
             if let Some(length) = drained.short {
                 self.short = drained.short;
                 self.frames.reset();
-                buffers.print_number(b"L1 short ", length, out)?;
-                return Ok(());
+                buffers.print_short(self.number, length, out)?;
+                return Ok(answered);
             }
         }
-        Ok(())
+        Ok(answered)
     }
 
-    // What the last line begins with; a lane that holds a part of a frame has a line of its own before it.
-    fn last_words(&self) -> &'static [u8]
-        ensures words { result.now ≡ last_words (end_of self.now.short self.now.frames.bytes) }
-        ensures short { length result.now ≤ 100 }
+    /// Whether the stream ends within a frame.
+    pub fn is_cut(&self) -> bool
+        ensures { result ≡ is_cut (lane_end self.now) }
     {
-        if self.short.is_none() && self.frames.held() > 0 {
-            b"L1 cut\nEND "
-        } else {
-            b"END "
-        }
+        self.short.is_none() && self.frames.held() > 0
     }
 
-    fn counts(&self) -> ScriptEnd
-        ensures { result ≡ counts (end_of self.now.short self.now.frames.bytes) self.now.entries }
+    /// Whether a frame below the least length closed the stream.
+    pub fn is_short(&self) -> bool
+        ensures { result ≡ is_short (lane_end self.now) }
     {
-        let (cut, short) = match self.short {
-            Some(_) => (0, 1),
-            None => (u32::from(self.frames.held() > 0), 0),
-        };
-        ScriptEnd {
-            entries: self.entries,
-            cut,
-            short,
-        }
+        self.short.is_some()
     }
 
-    /// Prints how the lane ends.
-    pub fn end<S: Sink>(&self, buffers: &mut Buffers, out: &mut S) -> Result<ScriptEnd, OutFailed>
-        ensures text { OnOk result (Appends (S.stands_for out.old) (S.stands_for out.new) (last_text (end_of self.now.short self.now.frames.bytes) self.now.entries)) }
-        ensures counts { IfOk result (λ over. over ≡ counts (end_of self.now.short self.now.frames.bytes) self.now.entries) }
+    /// Prints that the lane holds a part of a frame, where it does.
+    #[tactic(auto, unfolding(crate::specs::Runs::cut_line))]
+    pub fn print_end<S: Sink>(&self, buffers: &mut Buffers, out: &mut S) -> Result<(), OutFailed>
+        ensures ok { OnOk result (Appends (S.stands_for out.old) (S.stands_for out.new) (end_line self.now.number (lane_end self.now))) }
+        ensures front { OnErr result (AppendsFront (S.stands_for out.old) (S.stands_for out.new) (end_line self.now.number (lane_end self.now))) }
         ensures failed { OnErr result (Rose (S.faults out.old) (S.faults out.new)) }
+        ensures kept { OnOk result (S.faults out.new ≡ S.faults out.old) }
     {
-        buffers.print_number(self.last_words(), self.entries, out)?;
-        Ok(self.counts())
+        if self.is_cut() {
+            buffers.print_words(self.number, b"cut\n", out)
+        } else {
+            Ok(())
+        }
     }
 }

@@ -1,15 +1,18 @@
-//! What the module asks of the ledger and answers to a host's messages, and runs of scripts.
+//! What the module asks of the ledger and answers to messages, and runs of scripts.
 #![tactic(auto)]
 
-mod built;
+mod clear;
+mod families;
 mod lane;
-mod pieces;
+mod lines;
 mod plans;
+mod run;
 mod script;
 mod text;
 mod whole;
 
-pub use built::unbuilt;
+pub use clear::clear_in_runs;
+pub use lines::{Line, read_script};
 pub use plans::{Kind, Plan, finish, prepare};
 pub use script::{ScriptEnd, ScriptFault, script_run};
 pub use whole::answer;

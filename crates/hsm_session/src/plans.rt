@@ -1,17 +1,22 @@
 //! What a message comes to before its entry, and its answer at the entry.
 
-ghost use Rattle.std.specs.Prelude.{◌≡◌, ◌≤◌, length, bytes_eq};
+ghost use Rattle.std.specs.Prelude.{◌≡◌, ◌+◌, ◌≤◌, ◌++◌, length, bytes_eq, IfSome, Some};
 ghost use Rattle.std.specs.List.{list_any};
 ghost use Rattle.std.specs.Option.{option_map};
 ghost use Rattle.hsm_auth.specs.History.{CanAsk, Fits};
-ghost use Rattle.hsm_rows.specs.Table.{shown_shape};
-ghost use Rattle.hsm_answers.specs.Asks.{empty_ask};
-ghost use Rattle.hsm_answers.specs.Messages.{enabled_row, host, message_answer, message_ask};
-ghost use Rattle.hsm_session.specs.Plans.{IsBuilt, IsPlanOf, least_length, plan_ask, plan_message, side_of};
+ghost use Rattle.hsm_rows.specs.Table.{IsConsoleRow, IsHostRow, shape_of, shown_shape};
+ghost use Rattle.hsm_answers.specs.Asks.{ask_of};
+ghost use Rattle.hsm_answers.specs.Messages.{command_of, console, enabled_row, header_of, host, message_answer, message_ask, text_after, unknown_answer};
+ghost use Rattle.hsm_session.specs.Plans.{IsOwnPlan, IsPlanOf, IsPlanned, least_for, least_length, plan_ask, plan_kind, plan_message, planned_ask, planned_row, planned_text, side_of};
 
-use hsm_auth::{Ask, Granted, Needs};
+use crate::families::{Family, family_of};
+use hsm_answers::empty_ask;
+use hsm_auth::{Ask, Granted};
+use hsm_console::ConsolePlan;
+use hsm_datacmd::DataPlan;
 use hsm_keycmd::KeyPlan;
-use hsm_rows::{Module, Row, row_of};
+use hsm_pincmd::PinPlan;
+use hsm_rows::{Module, Row, console_row, row_of, same_text, token_run};
 use hsm_text::Reply;
 
 /// Where a message comes from.
@@ -28,13 +33,16 @@ pub enum Kind {
 enum Planned<'m> {
     // Its code is in no row, or the module disables it.
     Unknown,
-    // A key command.
     Key(KeyPlan<'m>),
+    Pin(PinPlan<'m>),
+    Data(DataPlan<'m>),
+    Console(ConsolePlan<'m>),
 }
 
 /// What a message comes to before its entry: its ask, and what is left to answer.
 #[derive(Clone, Copy)]
 pub struct Plan<'m> {
+    kind: Kind,
     message: &'m [u8],
     planned: Planned<'m>,
 }
@@ -45,28 +53,26 @@ impl<'m> Plan<'m> {
         ensures { result ≡ plan_ask self.now }
     {
         match &self.planned {
-            Planned::Unknown => Ask::Use {
-                needs: Needs {
-                    first: None,
-                    second: None,
-                },
-                words: 0,
-            },
+            Planned::Unknown => empty_ask(),
             Planned::Key(plan) => plan.ask(),
+            Planned::Pin(plan) => plan.ask(),
+            Planned::Data(plan) => plan.ask(),
+            Planned::Console(plan) => plan.ask(),
         }
     }
 }
 
-fn is_disabled(module: &Module, code: &[u8; 2]) -> bool
+fn is_disabled(module: &Module, code: &[u8]) -> bool
     ensures { result ≡ list_any (bytes_eq code.now) «module».now.disabled.items }
 {
-    module.disabled.contains(code)
+    module.disabled.iter().any(|disabled| same_text(code, disabled))
 }
 
 // The host row of a code, where the module doesn't disable it.
 #[tactic(auto, unfolding(hsm_answers::specs::Messages::enabled_row))]
 fn enabled_row(module: &Module, code: &[u8; 2]) -> Option<&'static Row>
-    ensures { option_map shown_shape result ≡ enabled_row «module».now host code.now }
+    ensures row { option_map shown_shape result ≡ enabled_row «module».now host code.now }
+    ensures host { IfSome result (λ r. IsHostRow (shape_of r.now)) }
 {
     if is_disabled(module, code) {
         return None;
@@ -74,27 +80,115 @@ fn enabled_row(module: &Module, code: &[u8; 2]) -> Option<&'static Row>
     row_of(code)
 }
 
-/// The plan of a host's message.
+// The console row of a word, where the module doesn't disable it.
+#[tactic(auto, unfolding(hsm_answers::specs::Messages::enabled_row))]
+fn enabled_console_row(module: &Module, word: &[u8]) -> Option<&'static Row>
+    ensures row { option_map shown_shape result ≡ enabled_row «module».now console word.now }
+    ensures console { IfSome result (λ r. IsConsoleRow (shape_of r.now)) }
+{
+    if is_disabled(module, word) {
+        return None;
+    }
+    console_row(word)
+}
+
+// The plan of a host row's text.
+fn plan_row<'m>(module: &Module, row: &'static Row, text: &'m [u8]) -> Planned<'m>
+    requires { IsHostRow (shape_of row.now) }
+    ensures row { planned_row result ≡ Some (shape_of row.now) }
+    ensures text { planned_text result ≡ text.now }
+    ensures own { IsOwnPlan «module».now result }
+    ensures ask { planned_ask result ≡ ask_of «module».now (shape_of row.now) text.now }
+    ensures may { CanAsk (planned_ask result) }
+{
+    match family_of(row) {
+        Family::Key => Planned::Key(hsm_keycmd::prepare(module, row, text)),
+        Family::Pin => Planned::Pin(hsm_pincmd::prepare(module, row, text)),
+        Family::Data => Planned::Data(hsm_datacmd::prepare(module, row, text)),
+    }
+}
+
+// The plan of a host's message.
+fn plan_host<'m>(module: &Module, message: &'m [u8]) -> Planned<'m>
+    requires { least_length «module».now ≤ length message.now }
+    ensures plan { IsPlanned «module».now host message.now result }
+    ensures ask { planned_ask result ≡ message_ask «module».now host message.now }
+    ensures may { CanAsk (planned_ask result) }
+{
+    let (_, command) = message.split_at(usize::from(module.header));
+    let (code, text) = command.split_at(2);
+    match enabled_row(module, &[code[0], code[1]]) {
+        Some(row) => plan_row(module, row, text),
+        None => Planned::Unknown,
+    }
+}
+
+// The plan of a console's message.
+fn plan_console<'m>(module: &Module, message: &'m [u8]) -> Planned<'m>
+    ensures plan { IsPlanned «module».now console message.now result }
+    ensures ask { planned_ask result ≡ message_ask «module».now console message.now }
+    ensures may { CanAsk (planned_ask result) }
+{
+    let (word, text) = message.split_at(token_run(message));
+    match enabled_console_row(module, word) {
+        Some(row) => Planned::Console(hsm_console::prepare(module, row, text)),
+        None => Planned::Unknown,
+    }
+}
+
+/// The plan of a message.
 pub fn prepare<'m>(module: &Module, kind: Kind, message: &'m [u8]) -> Plan<'m>
-    requires kind { kind ≡ Kind.Host }
-    requires built { IsBuilt «module».now }
-    requires least { least_length «module».now ≤ length message.now }
+    requires least { least_for «module».now kind ≤ length message.now }
+    requires most { length message.now ≤ 65535 }
+    ensures kind { plan_kind result ≡ kind }
     ensures message { plan_message result ≡ message.now }
     ensures ask { plan_ask result ≡ message_ask «module».now (side_of kind) message.now }
     ensures may { CanAsk (plan_ask result) }
     ensures plan { IsPlanOf «module».now result }
 {
-    let (_, command) = message.split_at(usize::from(module.header));
-    let (code, text) = command.split_at(2);
-    match enabled_row(module, &[code[0], code[1]]) {
-        Some(row) => Plan {
+    match kind {
+        Kind::Host => Plan {
+            kind,
             message,
-            planned: Planned::Key(hsm_keycmd::prepare(module, row, text)),
+            planned: plan_host(module, message),
         },
-        None => Plan {
+        Kind::Console => Plan {
+            kind,
             message,
-            planned: Planned::Unknown,
+            planned: plan_console(module, message),
         },
+    }
+}
+
+// The header of a message, which only a host's has.
+fn header_of<'m>(module: &Module, kind: Kind, message: &'m [u8]) -> &'m [u8]
+    requires { least_for «module».now kind ≤ length message.now }
+    ensures header { result.now ≡ header_of «module».now (side_of kind) message.now }
+    ensures short { length result.now ≤ 255 }
+{
+    match kind {
+        Kind::Host => {
+            let (header, _) = message.split_at(usize::from(module.header));
+            header
+        }
+        Kind::Console => b"",
+    }
+}
+
+// Appends the answer to a command that is in no row.
+fn put_unknown(module: &Module, kind: Kind, message: &[u8], reply: &mut Reply)
+    requires least { least_for «module».now kind ≤ length message.now }
+    requires room { length reply.old ≤ 255 }
+    ensures { reply.new ≡ reply.old ++ unknown_answer (side_of kind) (command_of «module».now (side_of kind) message.now) }
+{
+    match kind {
+        Kind::Host => {
+            let (_, command) = message.split_at(usize::from(module.header));
+            let (code, _) = command.split_at(2);
+            reply.put(&[code[0], code[1].wrapping_add(1)]);
+            reply.put(b"68");
+        }
+        Kind::Console => reply.put(b"NO 68"),
     }
 }
 
@@ -102,17 +196,16 @@ pub fn prepare<'m>(module: &Module, kind: Kind, message: &'m [u8]) -> Plan<'m>
 pub fn finish(module: &Module, plan: &Plan<'_>, granted: &Granted, reply: &mut Reply)
     requires plan { IsPlanOf «module».now plan.now }
     requires fits { Fits (plan_ask plan.now) granted.now }
-    ensures { reply.new ≡ message_answer «module».now host (plan_message plan.now) granted.now }
+    ensures { reply.new ≡ message_answer «module».now (side_of (plan_kind plan.now)) (plan_message plan.now) granted.now }
 {
-    let (header, command) = plan.message.split_at(usize::from(module.header));
+    let header = header_of(module, plan.kind, plan.message);
     reply.clear();
     reply.put(header);
     match &plan.planned {
-        Planned::Unknown => {
-            let (code, _) = command.split_at(2);
-            reply.put(&[code[0], code[1].wrapping_add(1)]);
-            reply.put(b"68");
-        }
+        Planned::Unknown => put_unknown(module, plan.kind, plan.message, reply),
         Planned::Key(plan) => hsm_keycmd::finish(module, plan, granted, reply),
+        Planned::Pin(plan) => hsm_pincmd::finish(module, plan, granted, reply),
+        Planned::Data(plan) => hsm_datacmd::finish(module, plan, granted, reply),
+        Planned::Console(plan) => hsm_console::finish(module, plan, granted, reply),
     }
 }

@@ -1,15 +1,15 @@
 //! Runs of scripts.
 
 ghost use Rattle.hsm_io.specs.Outside.{Rose};
-ghost use Rattle.hsm_session.specs.Plans.{IsBuilt};
 ghost use Rattle.hsm_session.specs.Booking.{IsKnown};
 ghost use Rattle.hsm_session.specs.Runs.{OutRose, RunAnswers};
-ghost use Rattle.hsm_session.specs.Scripts.{pieces_of};
+ghost use Rattle.hsm_session.specs.Scripts.{script_of};
 
-use crate::lane::{Buffers, Lane};
-use crate::pieces::read_pieces;
+use crate::lane::Buffers;
+use crate::lines::read_script;
+use crate::run::Run;
 use hsm_auth::Ledger;
-use hsm_frame::Frames;
+use hsm_frame::laws::has_one_reading;
 use hsm_io::Sink;
 use hsm_rows::Module;
 use std::alloc::Global;
@@ -17,7 +17,7 @@ use std::alloc::Global;
 /// How a script ended.
 #[derive(Clone, Copy, Debug, PartialEq, Eq)]
 pub struct ScriptEnd {
-    /// The number of messages that were answered.
+    /// The number of entries: messages and console texts that were answered.
     pub entries: u64,
     /// The number of lanes that held a part of a frame at the end.
     pub cut: u32,
@@ -36,7 +36,7 @@ pub enum ScriptFault {
     Out,
 }
 
-/// Runs a script, books its messages on the ledger, each at moment 0, and writes what it prints.
+/// Runs a script, books its messages on the ledger, each at the moment that was set last, and writes what it prints.
 pub fn script_run<S: Sink>(
     alloc: Global,
     module: &Module,
@@ -44,27 +44,25 @@ pub fn script_run<S: Sink>(
     script: &[u8],
     out: &mut S,
 ) -> Result<ScriptEnd, ScriptFault>
-    // Each host row that the module doesn't disable is built.
-    requires built { IsBuilt «module».now }
     // The ledger stands for some history.
     requires known { IsKnown ledger.old }
     // For each history that the ledger stood for, the text of the run after that history is written, and the ledger stands for that history with the entries of the run.
-    ensures answers { RunAnswers «module».now (pieces_of script.now) ledger.old ledger.new (S.stands_for out.old) (S.stands_for out.new) result }
+    ensures answers { RunAnswers «module».now (script_of «module».now.hosts script.now) ledger.old ledger.new (S.stands_for out.old) (S.stands_for out.new) result }
     ensures cause { OutRose (S.faults out.old) (S.faults out.new) result }
 {
-    let pieces = read_pieces(alloc, script)?;
-    let Ok(frames) = Frames::open(alloc, u16::from(module.header) + 2) else {
+    has_one_reading();
+    let lines = read_script(alloc, module.hosts, script)?;
+    let Ok(mut run) = Run::open(alloc, module) else {
         return Err(ScriptFault::Memory);
     };
-    let mut lane = Lane::new(frames);
     let mut buffers = Buffers::new();
-    'pieces: for piece in &pieces {
-        match lane.take_piece(module, ledger, piece, &mut buffers, out) {
+    'lines: for line in &lines {
+        match run.take_line(module, ledger, line, &mut buffers, out) {
             Ok(()) => {}
             Err(_) => return Err(ScriptFault::Out),
         }
     }
-    match lane.end(&mut buffers, out) {
+    match run.end(&mut buffers, out) {
         Ok(over) => Ok(over),
         Err(_) => Err(ScriptFault::Out),
     }

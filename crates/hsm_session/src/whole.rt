@@ -3,18 +3,17 @@
 ghost use Rattle.std.specs.Prelude.{◌≡◌, ◌≤◌, length};
 ghost use Rattle.hsm_auth.specs.History.{Fits};
 ghost use Rattle.hsm_answers.specs.Messages.{message_answer, message_ask};
-ghost use Rattle.hsm_session.specs.Plans.{IsBuilt, least_length, side_of};
+ghost use Rattle.hsm_session.specs.Plans.{least_for, side_of};
 
 use crate::plans::{Kind, finish, prepare};
 use hsm_auth::Granted;
 use hsm_rows::Module;
 use hsm_text::Reply;
 
-/// Replaces the reply by the whole answer of a host's message at an entry that gives this answer to its ask.
+/// Replaces the reply by the whole answer of a message at an entry that gives this answer to its ask.
 pub fn answer(module: &Module, kind: Kind, message: &[u8], granted: &Granted, reply: &mut Reply)
-    requires kind { kind ≡ Kind.Host }
-    requires built { IsBuilt «module».now }
-    requires least { least_length «module».now ≤ length message.now }
+    requires least { least_for «module».now kind ≤ length message.now }
+    requires most { length message.now ≤ 65535 }
     requires fits { Fits (message_ask «module».now (side_of kind) message.now) granted.now }
     ensures { reply.new ≡ message_answer «module».now (side_of kind) message.now granted.now }
 {
@@ -29,9 +28,8 @@ fn answer_by<const N: usize>(
     granted: &Granted,
     reply: &mut Reply,
 )
-    requires kind { kind ≡ Kind.Host }
-    requires built { IsBuilt «module».now }
-    requires least { least_length «module».now ≤ length message.now }
+    requires least { least_for «module».now kind ≤ length message.now }
+    requires most { length message.now ≤ 65535 }
     requires fits { Fits (message_ask «module».now (side_of kind) message.now) granted.now }
     ensures { reply.new ≡ message_answer «module».now (side_of kind) message.now granted.now }
 {

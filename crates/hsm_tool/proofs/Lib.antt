@@ -1,5 +1,5 @@
+pub mod CommandLaws
 pub mod FilesLaws
-pub mod PermitLaws
 pub mod RowLaws
 pub mod ScriptLaws
-pub mod SetLaws
+pub mod SettingsLaws

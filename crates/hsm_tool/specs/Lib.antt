@@ -1,4 +1,4 @@
-pub mod Sets
 pub mod Words
 pub mod Files
+pub mod Settings
 pub mod Runs

@@ -2,10 +2,8 @@
 use Rattle.std.specs.Prelude.{◌≡◌, ℕ, ◌<◌, List, [], ◌∷◌, length, map, Bool, false, not, ◌==◌, if◌then◌else◌, slice_index_or, String, string_bytes, Option, Some, None, Result, Ok, Err, codes, bytes_eq}
 use Rattle.std.specs.declared.alloc.Global.{Global}
 use Rattle.hsm_rows.specs.Table.{RowShape, shape_of, row_with, host_rows, IsHostRow}
-use Rattle.hsm_tool.specs.Sets.{set_named}
-use Rattle.hsm_tool.specs.declared.sets.TestSet.{TestSet}
 use Rattle.hsm_tool.specs.declared.command.Command.{Command}
-use Rattle.hsm_tool.specs.declared.command.Command.TheVariants.{Script, Explain}
+use Rattle.hsm_tool.specs.declared.command.Command.TheVariants.{Script, Check, Explain}
 use Rattle.hsm_tool.specs.declared.command.WordsFault.{WordsFault}
 use Rattle.hsm_tool.specs.declared.command.WordsFault.TheVariants.{Usage}
 
@@ -13,10 +11,12 @@ use Rattle.hsm_tool.specs.declared.command.WordsFault.TheVariants.{Usage}
 abbrev pub names : List (String Global) → List (List ℕ)
 names words = map (λ word. string_bytes word) words
 
--- What the words ask for: the place of the first word that no command allows, a set and the name of a script's file, or a row to print.
+-- What the words ask for: the place of the first word that no command allows, the names of a configuration and of a script's file, the name of a configuration
+-- to check, or a row to print.
 pub data Asked : Type 0 where
   usage : (place : ℕ) → Asked
-  script : (set : TestSet) (file : List ℕ) → Asked
+  script : (config file : List ℕ) → Asked
+  check : (config : List ℕ) → Asked
   explain : (row : RowShape) → Asked
 
 -- a word that names a file is not empty and does not begin with a dash
@@ -24,33 +24,29 @@ abbrev pub is_file_word : List ℕ → Bool
 is_file_word [] = false
 is_file_word (byte ∷ bytes) = not (byte == 45)
 
--- nothing follows the file
-abbrev pub asked_end : TestSet → List ℕ → List (List ℕ) → Asked
-asked_end set file [] = script set file
-asked_end set file (word ∷ rest) = usage 3
+-- nothing follows, or the word at this place is not allowed
+abbrev pub asked_end : Asked → ℕ → List (List ℕ) → Asked
+asked_end what place [] = what
+asked_end what place (word ∷ rest) = usage place
 
 -- the file of the script
-abbrev pub asked_file : TestSet → List (List ℕ) → Asked
-asked_file set [] = usage 2
-asked_file set (word ∷ rest) = if is_file_word word then asked_end set word rest else usage 2
+abbrev pub asked_file : List ℕ → List (List ℕ) → Asked
+asked_file config [] = usage 2
+asked_file config (word ∷ rest) = if is_file_word word then asked_end (script config word) 3 rest else usage 2
 
-abbrev pub asked_known : Option TestSet → List (List ℕ) → Asked
-asked_known None rest = usage 1
-asked_known (Some set) rest = asked_file set rest
+-- the configuration of the script
+abbrev pub asked_script : List (List ℕ) → Asked
+asked_script [] = usage 1
+asked_script (word ∷ rest) = if is_file_word word then asked_file word rest else usage 1
 
--- the set
-abbrev pub asked_set : List (List ℕ) → Asked
-asked_set [] = usage 1
-asked_set (word ∷ rest) = asked_known (set_named word) rest
-
--- nothing follows the code
-abbrev pub asked_row : RowShape → List (List ℕ) → Asked
-asked_row row [] = explain row
-asked_row row (word ∷ rest) = usage 2
+-- the configuration to check
+abbrev pub asked_check : List (List ℕ) → Asked
+asked_check [] = usage 1
+asked_check (word ∷ rest) = if is_file_word word then asked_end (check word) 2 rest else usage 1
 
 abbrev pub asked_found : Option RowShape → List (List ℕ) → Asked
 asked_found None rest = usage 1
-asked_found (Some row) rest = asked_row row rest
+asked_found (Some row) rest = asked_end (explain row) 2 rest
 
 -- the code of a host row
 abbrev pub asked_code : List (List ℕ) → Asked
@@ -61,7 +57,8 @@ asked_code (word ∷ rest) = asked_found (row_with word host_rows) rest
 abbrev pub asked : List (List ℕ) → Asked
 asked [] = usage 0
 asked (word ∷ rest) =
-    if bytes_eq word (codes "script") then asked_set rest
+    if bytes_eq word (codes "script") then asked_script rest
+    else if bytes_eq word (codes "check") then asked_check rest
     else if bytes_eq word (codes "explain") then asked_code rest
     else usage 0
 
@@ -70,12 +67,14 @@ word_at words i = slice_index_or words i []
 
 -- the command of the words, or the place of the word that none allows
 abbrev pub ReadsWords : List (List ℕ) → Result Command WordsFault → Type 0
-ReadsWords words (Ok (Script set file)) = (file < length words) × (asked words ≡ script set (word_at words file))
+ReadsWords words (Ok (Script config file)) = (config < length words) × (file < length words) × (asked words ≡ script (word_at words config) (word_at words file))
+ReadsWords words (Ok (Check config)) = (config < length words) × (asked words ≡ check (word_at words config))
 ReadsWords words (Ok (Explain row)) = IsHostRow (shape_of row.now) × (asked words ≡ explain (shape_of row.now))
 ReadsWords words (Err (Usage place)) = asked words ≡ usage place
 
--- The same of the last words, of which word n names the file. Of all words that is the third.
-abbrev pub ReadsFrom : ℕ → (List (List ℕ) → Asked) → List (List ℕ) → Result Command WordsFault → Type 0
-ReadsFrom n ask words (Ok (Script set file)) = (file ≡ 2) × (n < length words) × (ask words ≡ script set (word_at words n))
-ReadsFrom n ask words (Ok (Explain row)) = IsHostRow (shape_of row.now) × (ask words ≡ explain (shape_of row.now))
-ReadsFrom n ask words (Err (Usage place)) = ask words ≡ usage place
+-- The same of the words after the first one.
+abbrev pub ReadsRest : (List (List ℕ) → Asked) → List (List ℕ) → Result Command WordsFault → Type 0
+ReadsRest ask words (Ok (Script config file)) = (config ≡ 1) × (file ≡ 2) × (1 < length words) × (ask words ≡ script (word_at words 0) (word_at words 1))
+ReadsRest ask words (Ok (Check config)) = (config ≡ 1) × (0 < length words) × (ask words ≡ check (word_at words 0))
+ReadsRest ask words (Ok (Explain row)) = IsHostRow (shape_of row.now) × (ask words ≡ explain (shape_of row.now))
+ReadsRest ask words (Err (Usage place)) = ask words ≡ usage place

@@ -3,16 +3,17 @@
 ghost use Rattle.std.specs.Prelude.{◌≡◌, IfSome};
 ghost use Rattle.std.specs.Option.{option_map};
 ghost use Rattle.hsm_rows.specs.Table.{IsHostRow, host_rows, row_with, shape_of, shown_shape};
-ghost use Rattle.hsm_tool.specs.Words.{ReadsWords, ReadsFrom, asked_code, asked_file, asked_set, is_file_word, names};
+ghost use Rattle.hsm_tool.specs.Words.{ReadsWords, ReadsRest, asked_check, asked_code, asked_script, is_file_word, names};
 
-use crate::sets::{TestSet, set_named};
 use hsm_rows::{Row, row_of};
 
 /// What the words ask for. A place indexes the words.
 #[derive(Clone, Copy)]
 pub enum Command {
-    /// Runs the script of a file under an LMK set.
-    Script { set: TestSet, file: usize },
+    /// Runs the script of a file under a configuration.
+    Script { config: usize, file: usize },
+    /// Checks a configuration.
+    Check { config: usize },
     /// Prints the row of a host command.
     Explain { row: &'static Row },
 }
@@ -24,7 +25,7 @@ pub enum WordsFault {
     Usage(usize),
 }
 
-/// The command of the words: `script SET FILE` or `explain CODE`.
+/// The command of the words: `script CONFIG FILE`, `check CONFIG` or `explain CODE`.
 pub fn read_words(words: &[String]) -> Result<Command, WordsFault>
     ensures { ReadsWords (names words.now) result }
 {
@@ -32,28 +33,23 @@ pub fn read_words(words: &[String]) -> Result<Command, WordsFault>
         return Err(WordsFault::Usage(0));
     };
     match first.as_bytes() {
-        b"script" => read_set(rest),
+        b"script" => read_script(rest),
+        b"check" => read_check(rest),
         b"explain" => read_code(rest),
         _ => Err(WordsFault::Usage(0)),
     }
 }
 
-fn read_set(words: &[String]) -> Result<Command, WordsFault>
-    ensures { ReadsFrom 1 asked_set (names words.now) result }
+fn read_script(words: &[String]) -> Result<Command, WordsFault>
+    ensures { ReadsRest asked_script (names words.now) result }
 {
-    let [word, rest @ ..] = words else {
+    let [config, rest @ ..] = words else {
         return Err(WordsFault::Usage(1));
     };
-    let Some(set) = set_named(word.as_str()) else {
+    if !is_file_word(config.as_bytes()) {
         return Err(WordsFault::Usage(1));
-    };
-    read_file_word(set, rest)
-}
-
-fn read_file_word(set: TestSet, words: &[String]) -> Result<Command, WordsFault>
-    ensures { ReadsFrom 0 (asked_file set) (names words.now) result }
-{
-    let [file, rest @ ..] = words else {
+    }
+    let [file, rest @ ..] = rest else {
         return Err(WordsFault::Usage(2));
     };
     if !is_file_word(file.as_bytes()) {
@@ -62,11 +58,26 @@ fn read_file_word(set: TestSet, words: &[String]) -> Result<Command, WordsFault>
     if !rest.is_empty() {
         return Err(WordsFault::Usage(3));
     }
-    Ok(Command::Script { set, file: 2 })
+    Ok(Command::Script { config: 1, file: 2 })
+}
+
+fn read_check(words: &[String]) -> Result<Command, WordsFault>
+    ensures { ReadsRest asked_check (names words.now) result }
+{
+    let [config, rest @ ..] = words else {
+        return Err(WordsFault::Usage(1));
+    };
+    if !is_file_word(config.as_bytes()) {
+        return Err(WordsFault::Usage(1));
+    }
+    if !rest.is_empty() {
+        return Err(WordsFault::Usage(2));
+    }
+    Ok(Command::Check { config: 1 })
 }
 
 fn read_code(words: &[String]) -> Result<Command, WordsFault>
-    ensures { ReadsFrom 0 asked_code (names words.now) result }
+    ensures { ReadsRest asked_code (names words.now) result }
 {
     let [word, rest @ ..] = words else {
         return Err(WordsFault::Usage(1));

@@ -1,17 +1,17 @@
-//! The program: `hsm_tool script SET FILE` answers the messages of a script, and `hsm_tool explain CODE` prints a command.
+//! The program: `hsm_tool script CONFIG FILE` answers the messages of a script, `hsm_tool check CONFIG` checks a
+//! configuration, and `hsm_tool explain CODE` prints a command.
 #![tactic(auto)]
 
 mod command;
 mod outside;
 mod reading;
 mod run;
-mod sets;
 
 pub use command::{Command, WordsFault, read_words};
+use hsm_config::ConfigFault;
 pub use outside::{Output, SystemBench, SystemFile};
 pub use reading::{FILE_LIMIT, ReadingFault, read_all};
 pub use run::{Ended, Outcome, hsm_run};
-pub use sets::{TestSet, module_of, set_named};
 use std::process::ExitCode;
 use std::{env, io};
 
@@ -63,8 +63,12 @@ fn tell(rt: &impl Eprint, outcome: Outcome) -> io::Result<()> {
         Outcome::FileFault => eprintln!(rt; "hsm: file fault"),
         Outcome::OutFault => eprintln!(rt; "hsm: output fault"),
         Outcome::FileLong => eprintln!(rt; "hsm: file too long"),
+        Outcome::ConfigRefused(ConfigFault::NotToml) => eprintln!(rt; "hsm: not toml"),
+        Outcome::ConfigRefused(ConfigFault::Rule(rule)) => eprintln!(rt; "hsm: rule {rule}"),
         Outcome::ScriptRefused(line) => eprintln!(rt; "hsm: line {line}"),
-        Outcome::Memory => eprintln!(rt; "hsm: no memory"),
+        Outcome::Memory | Outcome::ConfigRefused(ConfigFault::Memory) => {
+            eprintln!(rt; "hsm: no memory")
+        }
     }
 }
 

@@ -1,22 +1,26 @@
 //! The top call.
 
-ghost use Rattle.std.specs.Prelude.{◌≡◌, ◌<◌, ℕ, List, Some, false, IsErrOf, length};
+ghost use Rattle.std.specs.Prelude.{◌≡◌, ◌<◌, ◌≤◌, ◌⊎◌, ℕ, List, Some, false, IfErr, IfOk, IsErrOf, IsTrue, length};
 ghost use Rattle.hsm_io.specs.Outside.{Rose};
-ghost use Rattle.hsm_rows.specs.Table.{IsHostRow, shape_of};
 ghost use Rattle.hsm_io.specs.Files.{kept_name};
+ghost use Rattle.hsm_rows.specs.Table.{IsHostRow, shape_of};
+ghost use Rattle.hsm_session.specs.Plans.{IsBuilt};
+ghost use Rattle.hsm_config.specs.Rules.{are_odd};
+ghost use Rattle.hsm_config.specs.declared.configuration.Config.{Config};
 ghost use Rattle.hsm_tool.specs.Files.{FilesStay, ReadsFile};
-ghost use Rattle.hsm_tool.specs.Sets.{module_of};
+ghost use Rattle.hsm_tool.specs.Settings.{Says, run_module};
 ghost use Rattle.hsm_tool.specs.Words.{asked, names, word_at};
-ghost use Rattle.hsm_tool.specs.Runs.{AnswersRow, AnswersScript, AnswersWords, FileCause, HasStatus, OfRow, OfScript, WithoutFile, WritesNothing, status_of};
+ghost use Rattle.hsm_tool.specs.Runs.{AnswersCheck, AnswersConfig, AnswersRow, AnswersScript, AnswersWords, FileCause, HasStatus, IsAfterConfig, IsPrinted, IsRefusal, OfCheck, OfConfig, OfRow, OfScript, ReadsConfig, WithoutFile, WritesNothing, status_of};
 
 use crate::command::{Command, WordsFault, read_words};
 use crate::reading::{ReadingFault, read_all};
-use crate::sets::{TestSet, module_of};
 use hsm_auth::Ledger;
+use hsm_config::{Config, ConfigFault};
 use hsm_io::{Bench, Sink, write_all};
-use hsm_rows::{Row, explain};
-use hsm_session::{ScriptEnd, ScriptFault, script_run};
+use hsm_rows::{Module, Row, explain};
+use hsm_session::{ScriptEnd, ScriptFault, script_run, unbuilt};
 use hsm_text::Reply;
+use itoa::Buffer;
 use std::alloc::Global;
 
 /// How a run ended.
@@ -32,6 +36,8 @@ pub enum Outcome {
     OutFault,
     /// A file has more than 16,777,216 bytes. Status 4.
     FileLong,
+    /// The file of the configuration is no TOML document, or breaks a rule: never want of memory. Status 4.
+    ConfigRefused(ConfigFault),
     /// The first line of the script that does not read, counted from 1. Status 4.
     ScriptRefused(u64),
     /// Want of memory. Status 5.
@@ -73,6 +79,7 @@ fn read_file<B: Bench>(alloc: Global, name: &str, bench: &mut B) -> Result<Vec<u
     requires { (B.files bench.old).is_out ≡ false }
     ensures told { (bytes : List ℕ) → (B.files bench.old).bytes_of name.now ≡ Some bytes → ReadsFile bytes result }
     ensures cause { IsErrOf result ReadingFault.Failed → (Rose (B.files bench.old).faults (B.files bench.new).faults) × ((B.files bench.new).bad_name ≡ kept_name name.now) }
+    ensures later { (B.files bench.old).faults ≤ (B.files bench.new).faults }
     ensures files { FilesStay (B.files bench.old).bytes_of (B.files bench.new).bytes_of }
     ensures given_back { (B.files bench.new).is_out ≡ false }
 {
@@ -84,18 +91,63 @@ fn read_file<B: Bench>(alloc: Global, name: &str, bench: &mut B) -> Result<Vec<u
     bytes
 }
 
-// Answers the script of a file under a set.
-fn run_script<B: Bench, S: Sink>(
+// Reads the configuration of a file, or says how the run ends.
+fn read_config<B: Bench>(alloc: Global, name: &str, bench: &mut B) -> Result<Config, Ended>
+    requires { (B.files bench.old).is_out ≡ false }
+    ensures told { (bytes : List ℕ) → (B.files bench.old).bytes_of name.now ≡ Some bytes → ReadsConfig bytes result }
+    ensures refused { IfErr result (λ ended. IsRefusal ended.status ended.outcome) }
+    ensures cause { IfErr result (λ ended. ended.outcome ≡ Outcome.FileFault → (Rose (B.files bench.old).faults (B.files bench.new).faults) × ((B.files bench.new).bad_name ≡ kept_name name.now)) }
+    ensures odd { IfOk result (λ config. IsTrue (are_odd config.pairs)) }
+    ensures some_host { IfOk result (λ config. 1 ≤ length config.host_ports.items) }
+    ensures most_hosts { IfOk result (λ config. length config.host_ports.items ≤ 64) }
+    ensures later { (B.files bench.old).faults ≤ (B.files bench.new).faults }
+    ensures files { FilesStay (B.files bench.old).bytes_of (B.files bench.new).bytes_of }
+    ensures given_back { (B.files bench.new).is_out ≡ false }
+{
+    let bytes = match read_file(alloc, name, bench) {
+        Ok(bytes) => bytes,
+        Err(ReadingFault::Memory) => return Err(end_with(5, Outcome::Memory)),
+        Err(ReadingFault::Failed) => return Err(end_with(3, Outcome::FileFault)),
+        Err(ReadingFault::Long) => return Err(end_with(4, Outcome::FileLong)),
+    };
+    match Config::read(alloc, &bytes) {
+        Ok(config) => Ok(config),
+        Err(ConfigFault::Memory) => Err(end_with(5, Outcome::Memory)),
+        Err(ConfigFault::NotToml) => {
+            Err(end_with(4, Outcome::ConfigRefused(ConfigFault::NotToml)))
+        }
+        Err(ConfigFault::Rule(rule)) => {
+            Err(end_with(4, Outcome::ConfigRefused(ConfigFault::Rule(rule))))
+        }
+    }
+}
+
+// The module of a script's run.
+fn run_module(config: &Config) -> Module
+    requires odd { IsTrue (are_odd config.now.pairs) }
+    requires some_host { 1 ≤ length config.now.host_ports.items }
+    requires most_hosts { length config.now.host_ports.items ≤ 64 }
+    ensures module { result ≡ run_module config.now }
+    ensures built { IsBuilt result }
+{
+    let mut module = config.module([0; 32]);
+    module.disabled = unbuilt();
+    module
+}
+
+// Answers the script of a file.
+fn run_file<B: Bench, S: Sink>(
     alloc: Global,
-    set: TestSet,
+    module: &Module,
     file: &str,
     bench: &mut B,
     out: &mut S,
 ) -> Ended
-    requires { (B.files bench.old).is_out ≡ false }
-    ensures words { (place : ℕ) → result.outcome ≡ Outcome.Usage place → ⊥ }
+    requires none_out { (B.files bench.old).is_out ≡ false }
+    requires built { IsBuilt «module».now }
+    ensures after { IsAfterConfig result.outcome }
     ensures script { (bytes : List ℕ) → (B.files bench.old).bytes_of file.now ≡ Some bytes →
-        AnswersScript (module_of set) bytes (S.stands_for out.old) (S.stands_for out.new) result.status result.outcome }
+        AnswersScript «module».now bytes (S.stands_for out.old) (S.stands_for out.new) result.status result.outcome }
     ensures status { HasStatus result.status result.outcome }
     ensures nothing { WritesNothing (S.stands_for out.old) (S.stands_for out.new) result.outcome }
     ensures file_cause { result.outcome ≡ Outcome.FileFault → (Rose (B.files bench.old).faults (B.files bench.new).faults) × ((B.files bench.new).bad_name ≡ kept_name file.now) }
@@ -112,11 +164,77 @@ fn run_script<B: Bench, S: Sink>(
     let Ok(mut ledger) = Ledger::new(alloc) else {
         return end_with(5, Outcome::Memory);
     };
-    match script_run(alloc, &module_of(set), &mut ledger, &bytes, out) {
+    match script_run(alloc, module, &mut ledger, &bytes, out) {
         Ok(over) => end_with(status_of(over), Outcome::Served),
         Err(ScriptFault::Line(line)) => end_with(4, Outcome::ScriptRefused(line)),
         Err(ScriptFault::Memory) => end_with(5, Outcome::Memory),
         Err(ScriptFault::Out) => end_with(3, Outcome::OutFault),
+    }
+}
+
+// Answers the script of a file under the configuration of another.
+fn run_script<B: Bench, S: Sink>(
+    alloc: Global,
+    settings: &str,
+    file: &str,
+    bench: &mut B,
+    out: &mut S,
+) -> Ended
+    requires { (B.files bench.old).is_out ≡ false }
+    ensures words { (place : ℕ) → result.outcome ≡ Outcome.Usage place → ⊥ }
+    ensures config { (bytes : List ℕ) → (B.files bench.old).bytes_of settings.now ≡ Some bytes → AnswersConfig settings.now bytes (B.files bench.new).bad_name result.outcome }
+    ensures script { (said bytes : List ℕ) (config : Config) → (B.files bench.old).bytes_of settings.now ≡ Some said → (B.files bench.old).bytes_of file.now ≡ Some bytes
+        → Says said config → AnswersScript (run_module config) bytes (S.stands_for out.old) (S.stands_for out.new) result.status result.outcome }
+    ensures status { HasStatus result.status result.outcome }
+    ensures nothing { WritesNothing (S.stands_for out.old) (S.stands_for out.new) result.outcome }
+    ensures file_cause { result.outcome ≡ Outcome.FileFault → (Rose (B.files bench.old).faults (B.files bench.new).faults)
+        × (((B.files bench.new).bad_name ≡ kept_name settings.now) ⊎ ((B.files bench.new).bad_name ≡ kept_name file.now)) }
+    ensures out_cause { result.outcome ≡ Outcome.OutFault → Rose (S.faults out.old) (S.faults out.new) }
+    ensures files { FilesStay (B.files bench.old).bytes_of (B.files bench.new).bytes_of }
+    ensures given_back { (B.files bench.new).is_out ≡ false }
+{
+    match read_config(alloc, settings, bench) {
+        Ok(config) => run_file(alloc, &run_module(&config), file, bench, out),
+        Err(ended) => ended,
+    }
+}
+
+// Prints the number of a configuration's host ports.
+fn print_hosts<S: Sink>(config: &Config, out: &mut S) -> Ended
+    requires { length config.now.host_ports.items ≤ 64 }
+    ensures after { IsPrinted result.outcome }
+    ensures check { AnswersCheck config.now (S.stands_for out.old) (S.stands_for out.new) result.status result.outcome }
+    ensures out_cause { result.outcome ≡ Outcome.OutFault → Rose (S.faults out.old) (S.faults out.new) }
+    ensures status { HasStatus result.status result.outcome }
+{
+    let mut digits = Buffer::new();
+    let mut text = Reply::new();
+    text.put(b"OK ");
+    text.put(digits.format(config.host_ports.len()).as_bytes());
+    text.put(b"\n");
+    match write_all(out, text.bytes()) {
+        Ok(()) => end_with(0, Outcome::Served),
+        Err(_) => end_with(3, Outcome::OutFault),
+    }
+}
+
+// Checks the configuration of a file.
+fn check_config<B: Bench, S: Sink>(alloc: Global, name: &str, bench: &mut B, out: &mut S) -> Ended
+    requires { (B.files bench.old).is_out ≡ false }
+    ensures words { (place : ℕ) → result.outcome ≡ Outcome.Usage place → ⊥ }
+    ensures config { (bytes : List ℕ) → (B.files bench.old).bytes_of name.now ≡ Some bytes → AnswersConfig name.now bytes (B.files bench.new).bad_name result.outcome }
+    ensures check { (bytes : List ℕ) (config : Config) → (B.files bench.old).bytes_of name.now ≡ Some bytes → Says bytes config
+        → AnswersCheck config (S.stands_for out.old) (S.stands_for out.new) result.status result.outcome }
+    ensures status { HasStatus result.status result.outcome }
+    ensures nothing { WritesNothing (S.stands_for out.old) (S.stands_for out.new) result.outcome }
+    ensures file_cause { result.outcome ≡ Outcome.FileFault → (Rose (B.files bench.old).faults (B.files bench.new).faults) × ((B.files bench.new).bad_name ≡ kept_name name.now) }
+    ensures out_cause { result.outcome ≡ Outcome.OutFault → Rose (S.faults out.old) (S.faults out.new) }
+    ensures files { FilesStay (B.files bench.old).bytes_of (B.files bench.new).bytes_of }
+    ensures given_back { (B.files bench.new).is_out ≡ false }
+{
+    match read_config(alloc, name, bench) {
+        Ok(config) => print_hosts(&config, out),
+        Err(ended) => ended,
     }
 }
 
@@ -137,7 +255,8 @@ fn print_row<S: Sink>(row: &Row, out: &mut S) -> Ended
 
 /// Does what the words ask for, with the files of the bench, and writes the command's output to `out`.
 ///
-/// The causes are looked at in this order: the words, the file, the lines of the script, the output. In a script want of memory may come before any but the words.
+/// The causes are looked at in this order: the words, the configuration's file, what it says, the script's file, the lines of the script, the output. Want of memory may
+/// come before any but the words, and never in printing a row.
 pub fn hsm_run<B: Bench, S: Sink>(
     alloc: Global,
     words: &[String],
@@ -148,15 +267,23 @@ pub fn hsm_run<B: Bench, S: Sink>(
     requires { (B.files bench.old).is_out ≡ false }
     // `Usage` comes exactly where the words are no command.
     ensures words { AnswersWords (asked (names words.now)) result.outcome }
-    // Where the bench tells the bytes of the file, they decide the outcome, the status and the output, but for faults and want of memory.
-    ensures script { OfScript (asked (names words.now)) (λ set file. (bytes : List ℕ) → (B.files bench.old).bytes_of file ≡ Some bytes →
-        AnswersScript (module_of set) bytes (S.stands_for out.old) (S.stands_for out.new) result.status result.outcome) }
+    // Where the bench tells the bytes of the configuration's file, they decide whether it is refused and how, before the script's file is opened.
+    ensures config { OfConfig (asked (names words.now)) (λ name. (bytes : List ℕ) → (B.files bench.old).bytes_of name ≡ Some bytes →
+        AnswersConfig name bytes (B.files bench.new).bad_name result.outcome) }
+    // Where it tells those of a configuration and of the script's file, they decide the outcome, the status and the output, but for faults and want of memory.
+    ensures script { OfScript (asked (names words.now)) (λ name file. (settings bytes : List ℕ) (config : Config) →
+        (B.files bench.old).bytes_of name ≡ Some settings → (B.files bench.old).bytes_of file ≡ Some bytes → Says settings config →
+        AnswersScript (run_module config) bytes (S.stands_for out.old) (S.stands_for out.new) result.status result.outcome) }
+    // Of a configuration to check the line is written, but for faults and want of memory.
+    ensures check { OfCheck (asked (names words.now)) (λ name. (bytes : List ℕ) (config : Config) →
+        (B.files bench.old).bytes_of name ≡ Some bytes → Says bytes config →
+        AnswersCheck config (S.stands_for out.old) (S.stands_for out.new) result.status result.outcome) }
     // Of a row its lines are written. Only a write can fail, and want of memory never comes.
     ensures row { OfRow (asked (names words.now)) (λ row. AnswersRow row (S.stands_for out.old) (S.stands_for out.new) result.status result.outcome) }
     ensures status { HasStatus result.status result.outcome }
     // With each other answer than `Served` and `OutFault` nothing was written.
     ensures nothing { WritesNothing (S.stands_for out.old) (S.stands_for out.new) result.outcome }
-    // `FileFault` only where the count for files rose in this call, and the bad name is that of the command's file.
+    // `FileFault` only where the count for files rose in this call, and the bad name is that of a file of the command.
     ensures file_cause { FileCause (asked (names words.now)) (B.files bench.old).faults (B.files bench.new).faults (B.files bench.new).bad_name result.outcome }
     // `OutFault` only where the sink's count rose in this call.
     ensures out_cause { result.outcome ≡ Outcome.OutFault → Rose (S.faults out.old) (S.faults out.new) }
@@ -168,9 +295,14 @@ pub fn hsm_run<B: Bench, S: Sink>(
 {
     match read_words(words) {
         Err(WordsFault::Usage(place)) => end_with(2, Outcome::Usage(place as u64)),
-        Ok(Command::Script { set, file }) => {
-            run_script(alloc, set, word_at(words, file), bench, out)
-        }
+        Ok(Command::Script { config, file }) => run_script(
+            alloc,
+            word_at(words, config),
+            word_at(words, file),
+            bench,
+            out,
+        ),
+        Ok(Command::Check { config }) => check_config(alloc, word_at(words, config), bench, out),
         Ok(Command::Explain { row }) => print_row(row, out),
     }
 }

@@ -19,9 +19,30 @@ fn words_of(alloc: Global, texts: &[&str]) -> Result<Vec<String>, AllocError> {
     Ok(words)
 }
 
+// A configuration of two host ports in which every half of every LMK pair is 133457799BBCDFF1.
+fn settings(alloc: Global) -> Result<String, AllocError> {
+    let mut text = String::from_str(
+        alloc,
+        "version = 1\nheader = 4\nconsole_port = 1500\nhost_ports = [1501, 1502]\naccept = 8\n",
+    )?;
+    text.push_str(
+        "officers = [\"ba7816bf8f01cfea414140de5dae2223b00361a396177a9cb410ff61f20015ad\", ",
+    )?;
+    text.push_str(
+        "\"2cf24dba5fb0a30e26e83b2ac5b9e29e1b161e5c1fa7425e73043362938b9824\"]\nlmk = [",
+    )?;
+    for _ in 0..20 {
+        text.push_str("\"133457799BBCDFF1133457799BBCDFF1\", ")?;
+    }
+    text.push_str("]\n")?;
+    Ok(text)
+}
+
+// A bench of two files: the configuration `c` and the script `f`.
 fn bench_of(
     alloc: Global,
-    bytes: Vec<u8>,
+    config: Vec<u8>,
+    script: Vec<u8>,
     bad_reads: &[u32],
     bad_files: &[u32],
 ) -> Result<MemBench, AllocError>
@@ -29,8 +50,13 @@ fn bench_of(
 {
     let mut files = Vec::new(alloc);
     files.push(MemNamed {
+        name: String::from_str(alloc, "c")?,
+        bytes: config,
+        bad_reads: Vec::new(alloc),
+    })?;
+    files.push(MemNamed {
         name: String::from_str(alloc, "f")?,
-        bytes,
+        bytes: script,
         bad_reads: bad_reads.to_vec(alloc)?,
     })?;
     Ok(MemBench::new(files, bad_files.to_vec(alloc)?))
@@ -43,11 +69,15 @@ fn ended(status: u8, outcome: Outcome) -> Ended {
 #[test]
 fn words_that_are_no_command(rt: HostRuntime) -> Result<(), Fail> {
     let alloc = rt.alloc();
-    let cases: [(&[&str], u64); 19] = [
+    let cases: [(&[&str], u64); 23] = [
         (&[], 0),
         (&["fly"], 0),
         (&["--help"], 0),
-        (&["check", "c"], 0),
+        (&["check"], 1),
+        (&["check", ""], 1),
+        (&["check", "-c"], 1),
+        (&["check", "c", "x"], 2),
+        (&["check", "c", ""], 2),
         (&["explain"], 1),
         (&["explain", "dg"], 1),
         (&["explain", "GC"], 1),
@@ -57,15 +87,15 @@ fn words_that_are_no_command(rt: HostRuntime) -> Result<(), Fail> {
         (&["explain", "DG", "NG"], 2),
         (&["explain", "DG", ""], 2),
         (&["script"], 1),
-        (&["script", "E9", "f"], 1),
-        (&["script", "e1", "f"], 1),
-        (&["script", "E1"], 2),
-        (&["script", "E1", "-f", "g"], 2),
-        (&["script", "E1", ""], 2),
-        (&["script", "E1", "f", ""], 3),
+        (&["script", "", "-f", "g"], 1),
+        (&["script", "-c", "f"], 1),
+        (&["script", "c"], 2),
+        (&["script", "c", "-f", "g"], 2),
+        (&["script", "c", ""], 2),
+        (&["script", "c", "f", ""], 3),
     ];
     for (texts, place) in cases {
-        let mut bench = bench_of(alloc, SCRIPT.to_vec(alloc)?, &[], &[])?;
+        let mut bench = bench_of(alloc, Vec::new(alloc), Vec::new(alloc), &[], &[])?;
         let mut out = MemSink::new(alloc, 100, Vec::new(alloc))?;
         let words = words_of(alloc, texts)?;
         let outcome = hsm_run(alloc, &words, &mut bench, &mut out);
@@ -85,9 +115,76 @@ fn served_and_refused(rt: HostRuntime) -> Result<(), Fail> {
         (b"L1 00\n\nL1 19\n", 4, Outcome::ScriptRefused(2), b""),
     ];
     for (script, status, outcome, output) in cases {
-        let mut bench = bench_of(alloc, script.to_vec(alloc)?, &[], &[])?;
+        let config = settings(alloc)?;
+        let mut bench = bench_of(
+            alloc,
+            config.as_bytes().to_vec(alloc)?,
+            script.to_vec(alloc)?,
+            &[],
+            &[],
+        )?;
         let mut out = MemSink::new(alloc, 100, Vec::new(alloc))?;
-        let words = words_of(alloc, &["script", "E1", "f"])?;
+        let words = words_of(alloc, &["script", "c", "f"])?;
+        let run = hsm_run(alloc, &words, &mut bench, &mut out);
+        assert_eq!(rt; run, ended(status, outcome));
+        assert_eq!(rt; out.bytes(), output);
+    }
+    Ok(())
+}
+
+// A configuration is settled before the script's file is opened, which is missing here or no script.
+#[test]
+fn configurations(rt: HostRuntime) -> Result<(), Fail> {
+    let alloc = rt.alloc();
+    let whole = settings(alloc)?;
+    let cases: [(&[u8], &[&str], u8, Outcome, &[u8]); 6] = [
+        (
+            whole.as_bytes(),
+            &["check", "c"],
+            0,
+            Outcome::Served,
+            b"OK 2\n",
+        ),
+        (
+            b"[",
+            &["check", "c"],
+            4,
+            Outcome::ConfigRefused(ConfigFault::NotToml),
+            b"",
+        ),
+        (
+            b"version = 1\nheader = 256\n",
+            &["check", "c"],
+            4,
+            Outcome::ConfigRefused(ConfigFault::Rule(3)),
+            b"",
+        ),
+        (
+            b"[",
+            &["script", "c", "g"],
+            4,
+            Outcome::ConfigRefused(ConfigFault::NotToml),
+            b"",
+        ),
+        (
+            b"extra = 1",
+            &["script", "c", "f"],
+            4,
+            Outcome::ConfigRefused(ConfigFault::Rule(1)),
+            b"",
+        ),
+        (
+            whole.as_bytes(),
+            &["script", "c", "f"],
+            4,
+            Outcome::ScriptRefused(1),
+            b"",
+        ),
+    ];
+    for (config, texts, status, outcome, output) in cases {
+        let mut bench = bench_of(alloc, config.to_vec(alloc)?, b"X".to_vec(alloc)?, &[], &[])?;
+        let mut out = MemSink::new(alloc, 100, Vec::new(alloc))?;
+        let words = words_of(alloc, texts)?;
         let run = hsm_run(alloc, &words, &mut bench, &mut out);
         assert_eq!(rt; run, ended(status, outcome));
         assert_eq!(rt; out.bytes(), output);
@@ -117,7 +214,7 @@ fn explains(rt: HostRuntime) -> Result<(), Fail> {
         ("RA", &[0], 3, Outcome::OutFault, b""),
     ];
     for (code, bad_writes, status, outcome, output) in cases {
-        let mut bench = bench_of(alloc, Vec::new(alloc), &[], &[])?;
+        let mut bench = bench_of(alloc, Vec::new(alloc), Vec::new(alloc), &[], &[])?;
         let mut out = MemSink::new(alloc, 100, bad_writes.to_vec(alloc)?)?;
         let words = words_of(alloc, &["explain", code])?;
         let run = hsm_run(alloc, &words, &mut bench, &mut out);
@@ -130,41 +227,117 @@ fn explains(rt: HostRuntime) -> Result<(), Fail> {
 #[test]
 fn faults_of_the_outside(rt: HostRuntime) -> Result<(), Fail> {
     let alloc = rt.alloc();
-    // The file that is opened, the reads, openings and writes that fail, and the outcome.
-    let cases: [(&str, &[u32], &[u32], &[u32], Outcome); 5] = [
-        ("g", &[], &[], &[], Outcome::FileFault),
-        ("f", &[0], &[], &[], Outcome::FileFault),
-        ("f", &[1], &[], &[], Outcome::FileFault),
-        ("f", &[], &[0], &[], Outcome::FileFault),
-        ("f", &[], &[], &[0], Outcome::OutFault),
+    // The words, the reads of the script, openings and writes that fail, the outcome, and the bad name.
+    let cases: [(&[&str], &[u32], &[u32], &[u32], Outcome, &[u8]); 9] = [
+        (
+            &["script", "b", "g"],
+            &[],
+            &[],
+            &[],
+            Outcome::FileFault,
+            b"b",
+        ),
+        (
+            &["script", "c", "g"],
+            &[],
+            &[],
+            &[],
+            Outcome::FileFault,
+            b"g",
+        ),
+        (
+            &["script", "c", "f"],
+            &[0],
+            &[],
+            &[],
+            Outcome::FileFault,
+            b"f",
+        ),
+        (
+            &["script", "c", "f"],
+            &[1],
+            &[],
+            &[],
+            Outcome::FileFault,
+            b"f",
+        ),
+        (
+            &["script", "c", "f"],
+            &[],
+            &[0],
+            &[],
+            Outcome::FileFault,
+            b"c",
+        ),
+        (
+            &["script", "c", "f"],
+            &[],
+            &[1],
+            &[],
+            Outcome::FileFault,
+            b"f",
+        ),
+        (&["check", "b"], &[], &[], &[], Outcome::FileFault, b"b"),
+        (&["check", "c"], &[], &[], &[0], Outcome::OutFault, b""),
+        (
+            &["script", "c", "f"],
+            &[],
+            &[],
+            &[0],
+            Outcome::OutFault,
+            b"",
+        ),
     ];
-    for (name, bad_reads, bad_files, bad_writes, outcome) in cases {
-        let mut bench = bench_of(alloc, SCRIPT.to_vec(alloc)?, bad_reads, bad_files)?;
+    for (texts, bad_reads, bad_files, bad_writes, outcome, bad_name) in cases {
+        let config = settings(alloc)?;
+        let mut bench = bench_of(
+            alloc,
+            config.as_bytes().to_vec(alloc)?,
+            SCRIPT.to_vec(alloc)?,
+            bad_reads,
+            bad_files,
+        )?;
         let mut out = MemSink::new(alloc, 100, bad_writes.to_vec(alloc)?)?;
-        let words = words_of(alloc, &["script", "E1", name])?;
+        let words = words_of(alloc, texts)?;
         let run = hsm_run(alloc, &words, &mut bench, &mut out);
         assert_eq!(rt; run, ended(3, outcome));
         assert_eq!(rt; out.bytes(), b"".as_slice());
-        if outcome == Outcome::FileFault {
-            assert_eq!(rt; bench.bad_name(), name.as_bytes());
-        }
+        assert_eq!(rt; bench.bad_name(), bad_name);
     }
     Ok(())
 }
 
 #[test]
-fn longest_file(rt: HostRuntime) -> Result<(), Fail> {
+fn longest_files(rt: HostRuntime) -> Result<(), Fail> {
     let alloc = rt.alloc();
     let cases = [
-        (FILE_LIMIT, Outcome::ScriptRefused(1)),
-        (FILE_LIMIT + 1, Outcome::FileLong),
+        (
+            FILE_LIMIT,
+            Outcome::ConfigRefused(ConfigFault::NotToml),
+            Outcome::ScriptRefused(1),
+        ),
+        (FILE_LIMIT + 1, Outcome::FileLong, Outcome::FileLong),
     ];
-    for (size, outcome) in cases {
-        let mut bench = bench_of(alloc, vec![in alloc; 0u8; size]?, &[], &[])?;
+    for (size, of_config, of_script) in cases {
         let mut out = MemSink::new(alloc, 100, Vec::new(alloc))?;
-        let words = words_of(alloc, &["script", "T", "f"])?;
-        let run = hsm_run(alloc, &words, &mut bench, &mut out);
-        assert_eq!(rt; run, ended(4, outcome));
+        let words = words_of(alloc, &["script", "c", "f"])?;
+        let mut bench = bench_of(alloc, vec![in alloc; 0u8; size]?, Vec::new(alloc), &[], &[])?;
+        assert_eq!(rt;
+            hsm_run(alloc, &words, &mut bench, &mut out),
+            ended(4, of_config)
+        );
+        let config = settings(alloc)?;
+        let mut bench = bench_of(
+            alloc,
+            config.as_bytes().to_vec(alloc)?,
+            vec![in alloc; 0u8; size]?,
+            &[],
+            &[],
+        )?;
+        assert_eq!(rt;
+            hsm_run(alloc, &words, &mut bench, &mut out),
+            ended(4, of_script)
+        );
     }
     Ok(())
 }

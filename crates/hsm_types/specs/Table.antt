@@ -92,3 +92,17 @@ permits_at ps Dek = ps.dek
 -- the permit that is kept for a type and an act
 abbrev pub permit_of : Permits → KeyType → Act → Permit
 permit_of ps ty act = permit_for act (permits_at ps ty)
+
+-- the permits that the table has, for all types
+abbrev pub table_permits : Permits
+table_permits = record {
+  zmk = (table_line Zmk).permits;
+  zpk = (table_line Zpk).permits;
+  tpk = (table_line Tpk).permits;
+  cvk = (table_line Cvk).permits;
+  tak = (table_line Tak).permits;
+  zak = (table_line Zak).permits;
+  bdk = (table_line Bdk).permits;
+  zek = (table_line Zek).permits;
+  dek = (table_line Dek).permits;
+}

@@ -1,7 +1,7 @@
 //! The table of the key types.
 ghost use Rattle.std.specs.Prelude.{◌≡◌, ◌<◌, ◌≤◌, ◌↔◌, Some, IsTrue};
 ghost use Rattle.hsm_types.specs.KeyTypes.{same_type};
-ghost use Rattle.hsm_types.specs.Table.{code_of, type_with, pair_of, variant_of, allows_length, permit_of, permits_at, table_permit, permits_of};
+ghost use Rattle.hsm_types.specs.Table.{code_of, type_with, pair_of, variant_of, allows_length, permit_of, permits_at, table_permit, table_permits, permits_of};
 
 use crate::types::{Act, KeyType, Permit, Permits, TypePermits};
 
@@ -95,7 +95,8 @@ const fn permits(generate: Permit, import: Permit, export: Permit) -> TypePermit
 impl Permits {
     /// The permits that the table of key types has.
     pub fn table() -> Permits
-        ensures { (ty : KeyType) (act : Act) → permit_of result ty act ≡ table_permit ty act }
+        ensures value { result ≡ table_permits }
+        ensures each { (ty : KeyType) (act : Act) → permit_of result ty act ≡ table_permit ty act }
     {
         use Permit::{A, N, Y};
         Permits {

@@ -5,7 +5,7 @@ use Rattle.hsm_session.proofs.lane.answer_held.Given as goal
 
 abbrev pub invariant-messages : goal.invariant-messages
 invariant-messages g l = record {
-  answers : Answers l.module l.initial.frames l.frames l.initial.ledger l.ledger (g.S.Sink.stands_for l.initial.out) (g.S.Sink.stands_for l.out) l.answered;
+  answers : Answers l.module l.number l.moment l.initial.frames l.frames l.initial.ledger l.ledger (g.S.Sink.stands_for l.initial.out) (g.S.Sink.stands_for l.out) l.answered;
   known : IsKnown l.ledger;
   kept : g.S.Sink.faults l.out ≡ g.S.Sink.faults l.initial.out;
 }

@@ -1,35 +1,95 @@
-use Rattle.std.proofs.Common.{◌++◌, ◌∷◌, [], List, ℕ, sym, ap, ◌∙◌, take}
+use Rattle.std.proofs.Common.{◌≡◌, ◌++◌, List, ℕ, length, sym, ap, ◌∙◌, arith}
 use Rattle.hsm_answers.specs.Answers.{answer}
-use Rattle.hsm_keycmd.specs.Plans.{plan_row, plan_text}
-use Rattle.hsm_answers.specs.Messages.{unknown_reply}
-use Rattle.hsm_session.proofs.PlanLaws.{IsCut, cut, unknown_reply_is, row_answer_is}
+use Rattle.hsm_answers.specs.Messages.{unknown_answer, command_of, header_of}
+use Rattle.hsm_keycmd.specs.Plans as key
+use Rattle.hsm_pincmd.specs.Plans as pin
+use Rattle.hsm_datacmd.specs.Plans as held
+use Rattle.hsm_console.specs.Plans as officers
+use Rattle.hsm_session.specs.Plans.{planned_row, planned_text, side_of, plan_kind}
+use Rattle.hsm_session.proofs.PlanLaws.{unknown_answer_is, planned_answer_is, room_is}
 use Rattle.hsm_session.proofs.plans.finish.Goals as goal
+
+pub put_unknown-requires-clause-room : goal.put_unknown-requires-clause-room
+put_unknown-requires-clause-room c = omega (arith, ap length (c.put.ensures ∙ ap (λ (old : List ℕ). old ++ c.header_of-header.result.now) c.clear.ensures), c.header_of-header.ensures.short)
+
+pub finish-requires-clause-room : goal.finish-requires-clause-room
+finish-requires-clause-room c = omega (arith, ap length (c.put.ensures ∙ ap (λ (old : List ℕ). old ++ c.header_of-header.result.now) c.clear.ensures), c.header_of-header.ensures.short)
 
 pub returns-in-Unknown : goal.returns-in-Unknown
 returns-in-Unknown c =
     let m = c.args.module.now in
-    let message = c.args.plan.now.message.now in
-    let code = c.split_at-in-Unknown.result.0.now in
-    let parts : IsCut m message c.split_at.result.1.now code c.split_at-in-Unknown.result.1.now =
-    cut m message c.split_at.result.1.now code c.split_at-in-Unknown.result.1.now c.from.result c.requires.plan.least c.from.ensures
-    c.split_at.ensures.back c.split_at-in-Unknown.ensures.front c.split_at-in-Unknown.ensures.back in
-    let none = rw c.in-Unknown.is at c.requires.plan.planned in
-    c.put-in-Unknown-2.ensures
-    ∙ ap (λ (text : List ℕ). text ++ (54 ∷ 56 ∷ [])) (c.put-in-Unknown.ensures ∙ ap (λ (text : List ℕ). text ++ unknown_reply code)
-    (c.put.ensures ∙ ap (λ (text : List ℕ). text ++ c.split_at.result.0.now) c.clear.ensures))
-    ∙ unknown_reply_is m message c.split_at.result.1.now code c.split_at-in-Unknown.result.1.now c.split_at.result.0.now c.args.granted.now c.from.result parts none
-    c.split_at.ensures.front c.from.ensures
+    let plan = c.args.plan.now in
+    let message = plan.message.now in
+    let side = side_of (plan_kind plan) in
+    let planned = c.requires.plan.planned in
+    let none = sym planned.row ∙ ap planned_row c.in-Unknown.is in
+    c.put_unknown.ensures
+    ∙ ap (λ (text : List ℕ). text ++ unknown_answer side (command_of m side message))
+    (c.put.ensures ∙ ap (λ (old : List ℕ). old ++ c.header_of-header.result.now) c.clear.ensures ∙ c.header_of-header.ensures.header)
+    ∙ sym (unknown_answer_is m side message c.args.granted.now none)
 
 pub returns-in-Key : goal.returns-in-Key
 returns-in-Key c =
     let m = c.args.module.now in
-    let message = c.args.plan.now.message.now in
-    let granted = c.args.granted.now in
-    let plan = c.in-Key.plan in
-    let row = plan_row plan in
-    let planned = rw c.in-Key.is at c.requires.plan.planned in
+    let plan = c.args.plan.now in
+    let message = plan.message.now in
+    let side = side_of (plan_kind plan) in
+    let row = key.plan_row c.in-Key.plan in
+    let text = key.plan_text c.in-Key.plan in
     c.finish.ensures
-    ∙ ap (λ (text : List ℕ). text ++ answer m row (plan_text plan) granted) (c.put.ensures ∙ ap (λ (text : List ℕ). text ++ c.split_at.result.0.now) c.clear.ensures
-    ∙ c.split_at.ensures.front ∙ ap (λ (n : ℕ). take n message) c.from.ensures)
-    ∙ ap (λ (text : List ℕ). take m.header message ++ answer m row text granted) planned.1
-    ∙ sym (row_answer_is m message granted row planned.0)
+    ∙ ap (λ (old : List ℕ). old ++ answer m row text c.args.granted.now)
+    (c.put.ensures ∙ ap (λ (old : List ℕ). old ++ c.header_of-header.result.now) c.clear.ensures ∙ c.header_of-header.ensures.header)
+    ∙ sym (planned_answer_is m side message c.args.granted.now row text plan.planned c.requires.plan.planned (ap planned_row c.in-Key.is) (ap planned_text c.in-Key.is))
+
+pub returns-in-Pin : goal.returns-in-Pin
+returns-in-Pin c =
+    let m = c.args.module.now in
+    let plan = c.args.plan.now in
+    let message = plan.message.now in
+    let side = side_of (plan_kind plan) in
+    let row = pin.plan_row c.in-Pin.plan in
+    let text = pin.plan_text c.in-Pin.plan in
+    c.finish-in-Pin.ensures
+    ∙ ap (λ (old : List ℕ). old ++ answer m row text c.args.granted.now)
+    (c.put.ensures ∙ ap (λ (old : List ℕ). old ++ c.header_of-header.result.now) c.clear.ensures ∙ c.header_of-header.ensures.header)
+    ∙ sym (planned_answer_is m side message c.args.granted.now row text plan.planned c.requires.plan.planned (ap planned_row c.in-Pin.is) (ap planned_text c.in-Pin.is))
+
+pub returns-in-Data : goal.returns-in-Data
+returns-in-Data c =
+    let m = c.args.module.now in
+    let plan = c.args.plan.now in
+    let message = plan.message.now in
+    let side = side_of (plan_kind plan) in
+    let row = held.plan_row c.in-Data.plan in
+    let text = held.plan_text c.in-Data.plan in
+    c.finish-in-Data.ensures
+    ∙ ap (λ (old : List ℕ). old ++ answer m row text c.args.granted.now)
+    (c.put.ensures ∙ ap (λ (old : List ℕ). old ++ c.header_of-header.result.now) c.clear.ensures ∙ c.header_of-header.ensures.header)
+    ∙ sym (planned_answer_is m side message c.args.granted.now row text plan.planned c.requires.plan.planned (ap planned_row c.in-Data.is) (ap planned_text c.in-Data.is))
+
+pub returns-in-Console : goal.returns-in-Console
+returns-in-Console c =
+    let m = c.args.module.now in
+    let plan = c.args.plan.now in
+    let message = plan.message.now in
+    let side = side_of (plan_kind plan) in
+    let row = officers.plan_row c.in-Console.plan in
+    let text = officers.plan_text c.in-Console.plan in
+    c.finish-in-Console.ensures
+    ∙ ap (λ (old : List ℕ). old ++ answer m row text c.args.granted.now)
+    (c.put.ensures ∙ ap (λ (old : List ℕ). old ++ c.header_of-header.result.now) c.clear.ensures ∙ c.header_of-header.ensures.header)
+    ∙ sym (planned_answer_is m side message c.args.granted.now row text plan.planned c.requires.plan.planned (ap planned_row c.in-Console.is) (ap planned_text c.in-Console.is))
+
+pub finish-requires-in-Data-clause-room : goal.finish-requires-in-Data-clause-room
+finish-requires-in-Data-clause-room c =
+    let m = c.args.module.now in
+    let plan = c.args.plan.now in
+    let planned = c.requires.plan.planned in
+    let row = held.plan_row c.in-Data.plan in
+    let found = sym planned.row ∙ ap planned_row c.in-Data.is in
+    omega (
+      arith,
+      room_is m plan.kind plan.message.now row c.requires.plan.least c.requires.plan.most found,
+      ap length (c.put.ensures ∙ ap (λ (old : List ℕ). old ++ c.header_of-header.result.now) c.clear.ensures ∙ c.header_of-header.ensures.header),
+      ap length (sym (ap planned_text c.in-Data.is) ∙ planned.text row (ap planned_row c.in-Data.is)),
+    )

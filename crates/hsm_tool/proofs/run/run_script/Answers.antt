@@ -1,10 +1,8 @@
-use Rattle.std.proofs.Common.{◌∙◌}
-use Rattle.hsm_tool.proofs.ScriptLaws.{served}
+use Rattle.hsm_tool.proofs.SettingsLaws.{same_answer}
 use Rattle.hsm_tool.proofs.run.run_script.Goals as goal
 
-pub returns-in-Ok-script_run-clause-script : goal.returns-in-Ok-script_run-clause-script
-returns-in-Ok-script_run-clause-script g c = λ bytes told.
-    let read = c.in-Ok.ensures.told bytes told in
-    served _ c.module_of.result bytes c.deref.result.now c.in-Ok-script_run.over c.status_of.result c.end_with-in-Ok-script_run.result c.in-Ok-new.ledger c.script_run.new.ledger
-    (g.S.Sink.stands_for c.args.out.now) (g.S.Sink.stands_for c.script_run.new.out) c.module_of.ensures.module (c.deref.ensures.value ∙ read.0) read.1 c.in-Ok-new.ensures
-    c.in-Ok-script_run.ensures.answers c.end_with-in-Ok-script_run.ensures c.status_of.ensures
+pub returns-in-Ok-clause-script : goal.returns-in-Ok-clause-script
+returns-in-Ok-clause-script g c = λ settings bytes config told_config told_file says.
+    same_answer settings bytes c.in-Ok.config config c.run_module.result (g.S.Sink.stands_for c.args.out.now) (g.S.Sink.stands_for c.run_file.new.out)
+    c.run_file.result.status c.run_file.result.outcome (c.in-Ok.ensures.told settings told_config) says c.run_module.ensures.module
+    (c.run_file.ensures.script bytes (c.in-Ok.ensures.files c.args.file.now bytes told_file))

@@ -1,9 +1,8 @@
 use Rattle.std.proofs.Common.{◌≡◌, ◌∷◌, [], ◌∙◌, arith}
 use Rattle.std.proofs.lemmas.Grind.{common_steps}
-use Rattle.hsm_answers.specs.Messages.{host, message_answer}
-use Rattle.hsm_io.specs.Texts.{Appends}
-use Rattle.hsm_session.specs.Booking.{reply_line, BooksAll}
-use Rattle.hsm_session.proofs.BookingLaws.{books_one, on_ok}
+use Rattle.hsm_io.specs.Texts.{Appends, AppendsFront}
+use Rattle.hsm_session.specs.Booking.{reply_line, BooksAll, BooksSome}
+use Rattle.hsm_session.proofs.BookingLaws.{books_one, on_err, on_ok, some_one}
 use Rattle.hsm_session.proofs.lane.Buffers.print_answer.Goals as goal
 
 pub returns-clause-booked : goal.returns-clause-booked
@@ -13,7 +12,19 @@ returns-clause-booked g c =
     let message = c.args.message.now in
     let before = g.S.Sink.stands_for c.args.out.now in
     let after = g.S.Sink.stands_for c.write_all.new.out in
-    let text : c.deref-2.result.now ≡ reply_line (message_answer m host message c.step-granted.result) = grind (arith, common_steps) in
-    on_ok c.write_all.result (Appends before after c.deref-2.result.now) (BooksAll m (message ∷ []) c.args.ledger.now c.step-granted.new.self before after) c.write_all.ensures.ok
-    (books_one m message c.deref-2.result.now c.ask.result c.step-granted.result c.args.ledger.now c.step-granted.new.self before after
-    (c.ask.ensures ∙ c.prepare-plan.ensures.ask) c.step-granted.ensures.answer c.step-granted.ensures.stands c.step-granted.ensures.legal text)
+    let reply = c.answer.new.self.reply in
+    let text : c.deref-2.result.now ≡ reply_line c.args.number reply = grind (arith, common_steps) in
+    on_ok c.write_all.result (Appends before after c.deref-2.result.now) (BooksAll m c.args.number c.args.moment (message ∷ []) c.args.ledger.now c.answer.new.ledger before after) c.write_all.ensures.ok
+    (books_one m c.args.number c.args.moment message reply c.deref-2.result.now c.args.ledger.now c.answer.new.ledger before after c.answer.ensures text)
+
+pub returns-clause-part : goal.returns-clause-part
+unfolding reply_line
+returns-clause-part g c =
+    let m = c.args.module.now in
+    let message = c.args.message.now in
+    let before = g.S.Sink.stands_for c.args.out.now in
+    let after = g.S.Sink.stands_for c.write_all.new.out in
+    let reply = c.answer.new.self.reply in
+    let text : c.deref-2.result.now ≡ reply_line c.args.number reply = grind (arith, common_steps) in
+    on_err c.write_all.result (AppendsFront before after c.deref-2.result.now) (BooksSome m c.args.number c.args.moment (message ∷ []) c.args.ledger.now c.answer.new.ledger before after) c.write_all.ensures.front
+    (some_one m c.args.number c.args.moment message reply c.deref-2.result.now c.args.ledger.now c.answer.new.ledger before after c.answer.ensures text)

@@ -8,7 +8,8 @@ abbrev pub invariant-chunks : goal.invariant-chunks
 invariant-chunks g l = record {
   is_open : l.self.short ≡ None;
   room : length l.self.frames.bytes < 65537;
-  fed : (part : List ℕ) × (l.piece ≡ part ++ l.rest) × Feeds l.module l.initial.self l.self part l.initial.ledger l.ledger (g.S.Sink.stands_for l.initial.out) (g.S.Sink.stands_for l.out);
+  fed : (part : List ℕ) × (l.piece ≡ part ++ l.rest)
+      × Feeds l.module l.moment l.initial.self l.self part l.answered l.initial.ledger l.ledger (g.S.Sink.stands_for l.initial.out) (g.S.Sink.stands_for l.out);
   waits : IsNotYet l.initial.self.frames.least l.initial.self.frames.bytes → IsNotYet l.initial.self.frames.least l.self.frames.bytes;
   known : IsKnown l.ledger;
   kept : g.S.Sink.faults l.out ≡ g.S.Sink.faults l.initial.out;

@@ -1,0 +1,119 @@
+-- Answers that show a clear key or PIN, and what was granted then.
+use Rattle.std.proofs.Common.{◌≡◌, ℕ, Bool, true, false, ◌&&◌, List, [], ◌∷◌, Option, Some, None, refl, sym, ap, ◌∙◌, subst, inl, inr, cond, map}
+use Rattle.std.specs.Prelude.{◌⊎◌, if◌then◌else◌}
+use Rattle.std.specs.List.{AllByRecursion, list_any}
+use Rattle.std.specs.Str.{bytes_eq}
+use Rattle.hsm_auth.specs.declared.activity.Activity.{Activity}
+use Rattle.hsm_auth.specs.declared.entry.Ask.{Ask}
+use Rattle.hsm_auth.specs.declared.entry.Ask.TheVariants as ask
+use Rattle.hsm_auth.specs.declared.entry.Entry.{Entry}
+use Rattle.hsm_auth.specs.declared.entry.Grant.{Grant}
+use Rattle.hsm_auth.specs.declared.entry.Granted.TheVariants as granted
+use Rattle.hsm_auth.specs.Activities.{covers}
+use Rattle.hsm_auth.specs.Grants.{IsLive}
+use Rattle.hsm_auth.specs.History.{outcome, live, is_met, next}
+use Rattle.hsm_rows.specs.declared.settings.Module.{Module}
+use Rattle.hsm_rows.specs.Table.{RowShape, row_with, host_rows, console_rows, row_A0, row_A6, row_A8, row_BU, row_CA, row_CC, row_DE, row_DG, row_DA, row_EA, row_DC, row_EC, row_BA, row_NG, row_JA, row_CW, row_CY, row_M6, row_M8, row_B2, row_NC, row_NO, row_RA, row_A, row_C, row_VA, row_Q, row_LOG, row_GC, row_FK}
+use Rattle.hsm_rows.specs.Rules.{RowRules, rules_of, host_rules, console_rules, rules_NG, rules_GC}
+use Rattle.hsm_rows.specs.Reading.{ReadText}
+use Rattle.hsm_rows.specs.Clear.{has_clear}
+use Rattle.hsm_answers.specs.Keys.{first_code}
+use Rattle.hsm_answers.specs.Checks.{check_before, check_after, check_read, fixed_need, needs_of, is_refused}
+use Rattle.hsm_answers.specs.Asks.{as_needs, asked_words, row_ask}
+use Rattle.hsm_answers.specs.Clear.{ShowsClear, IsCovered}
+use Rattle.hsm_answers.specs.Messages.{Side, host, console, command_of, enabled_row, rows_of, text_after, message_ask, ask_by}
+use Rattle.hsm_answers.proofs.AnswerSteps.{passed_ask}
+
+-- a row that shows a clear key or PIN is NG or GC
+abbrev IsMarked : RowShape → Type 0
+IsMarked row = (row ≡ row_NG) ⊎ (row ≡ row_GC)
+
+abbrev MarksOnly : RowShape → Type 0
+MarksOnly row = has_clear row ≡ true → IsMarked row
+
+unmarked : (row : RowShape) → has_clear row ≡ false → MarksOnly row
+unmarked row plain = λ marked. absurd (cc)
+
+host_marks : AllByRecursion MarksOnly host_rows
+unfolding host_rows row_A0 row_A6 row_A8 row_BU row_CA row_CC row_DE row_DG row_DA row_EA row_DC row_EC row_BA row_NG row_JA row_CW row_CY row_M6 row_M8 row_B2 row_NC row_NO row_RA
+host_marks =
+    (unmarked row_A0 refl, (unmarked row_A6 refl, (unmarked row_A8 refl, (unmarked row_BU refl, (unmarked row_CA refl, (unmarked row_CC refl, (unmarked row_DE refl, (unmarked row_DG refl, (unmarked row_DA refl, (unmarked row_EA refl, (unmarked row_DC refl, (unmarked row_EC refl, (unmarked row_BA refl, (λ marked. inl refl, (unmarked row_JA refl, (unmarked row_CW refl, (unmarked row_CY refl, (unmarked row_M6 refl, (unmarked row_M8 refl, (unmarked row_B2 refl, (unmarked row_NC refl, (unmarked row_NO refl, (unmarked row_RA refl, tt)))))))))))))))))))))))
+
+console_marks : AllByRecursion MarksOnly console_rows
+unfolding console_rows row_A row_C row_VA row_Q row_LOG row_GC row_FK
+console_marks =
+    (unmarked row_A refl, (unmarked row_C refl, (unmarked row_VA refl, (unmarked row_Q refl, (unmarked row_LOG refl, (λ marked. inr refl, (unmarked row_FK refl, tt)))))))
+
+side_marks : (side : Side) → AllByRecursion MarksOnly (rows_of side)
+side_marks host = host_marks
+side_marks console = console_marks
+
+found_here : (P : RowShape → Type 0) (x : RowShape) (rest : Option RowShape) (b : Bool) (row : RowShape) → P x → (rest ≡ Some row → P row) → cond b (Some x) rest ≡ Some row → P row
+found_here P x rest true row here later found = subst P (cc) here
+found_here P x rest false row here later found = later found
+
+-- what holds of all rows holds of the one that is found
+found_among : (P : RowShape → Type 0) (code : List ℕ) (rows : List RowShape) (row : RowShape) → AllByRecursion P rows → row_with code rows ≡ Some row → P row
+found_among P code [] row all found = absurd (cc)
+found_among P code (x ∷ rows) row all found =
+    found_here P x (row_with code rows) (bytes_eq code x.code) row all.0 (λ later. found_among P code rows row all.1 later) found
+
+by_disabled : (P : RowShape → Type 0) (code : List ℕ) (rows : List RowShape) (row : RowShape) (disabled : Bool) → AllByRecursion P rows → cond disabled None (row_with code rows) ≡ Some row → P row
+by_disabled P code rows row true all found = absurd (cc)
+by_disabled P code rows row false all found = found_among P code rows row all found
+
+-- what holds of all rows of a side holds of each that is enabled
+pub enabled_among : (P : RowShape → Type 0) (m : Module) (side : Side) (code : List ℕ) (row : RowShape) → AllByRecursion P (rows_of side) → enabled_row m side code ≡ Some row → P row
+unfolding enabled_row
+enabled_among P m side code row all found = by_disabled P code (rows_of side) row (list_any (bytes_eq code) m.disabled.items) all found
+
+pub is_marked : (m : Module) (side : Side) (code : List ℕ) (row : RowShape) → enabled_row m side code ≡ Some row → has_clear row ≡ true → IsMarked row
+is_marked m side code row found marked = (enabled_among MarksOnly m side code row (side_marks side) found) marked
+
+-- where no check fails, none before the entry does and the needs were covered
+passed_before : (before late : Option ℕ) (refused : Bool) → first_code (before ∷ (if refused then Some 17 else None) ∷ late ∷ []) ≡ None → (before ≡ None) × (refused ≡ false)
+passed_before None late false h = (refl, refl)
+passed_before None late true h = absurd (cc)
+passed_before (Some code) late refused h = absurd (cc)
+
+-- the one need of a row
+record NeedsOne (rules : RowRules) (m : Module) (read : ReadText) : Type 0 where
+  need : Activity
+  needed : map (fixed_need read) rules.needs ≡ need ∷ []
+  asks : row_ask m rules read rules.ask ≡ ask.Use (as_needs (need ∷ [])) (asked_words m rules read)
+
+needs_NG : (m : Module) (read : ReadText) → NeedsOne (rules_of row_NG) m read
+unfolding rules_of host_rules row_NG rules_NG row_ask needs_of
+needs_NG m read = record { need = _; needed = refl; asks = refl }
+
+needs_GC : (m : Module) (read : ReadText) → NeedsOne (rules_of row_GC) m read
+unfolding rules_of console_rules row_GC rules_GC row_ask needs_of
+needs_GC m read = record { need = _; needed = refl; asks = refl }
+
+needs_marked : (m : Module) (read : ReadText) (row : RowShape) → IsMarked row → NeedsOne (rules_of row) m read
+needs_marked m read row (inl e) = subst (λ (d : RowShape). NeedsOne (rules_of d) m read) (sym e) (needs_NG m read)
+needs_marked m read row (inr e) = subst (λ (d : RowShape). NeedsOne (rules_of d) m read) (sym e) (needs_GC m read)
+
+-- a use that is not refused had its first need covered
+used_met : (need : Activity) (words : ℕ) (h : List Entry) (moment : ℕ) (met : Bool) → (is_met (Some need) (live h moment) && true) ≡ met
+    → is_refused (if met then granted.Use (next h) else granted.Refused) ≡ false → is_met (Some need) (live h moment) ≡ true
+used_met need words h moment true is good = and_true (is_met (Some need) (live h moment)) is where
+  and_true : (b : Bool) → (b && true) ≡ true → b ≡ true
+  and_true true e = refl
+  and_true false e = cc
+used_met need words h moment false is good = absurd (cc)
+
+pub covered_is : ((h : List Entry) (moment : ℕ) (need : Activity) → is_met (Some need) (live h moment) ≡ true → (g : Grant) × IsLive h moment g × (covers g.activity need ≡ true))
+    → (m : Module) (side : Side) (message : List ℕ) (h : List Entry) (moment : ℕ)
+    → (s : ShowsClear m side message (outcome h moment (message_ask m side message))) → IsCovered s.row s.read h moment
+unfolding check_read message_ask
+covered_is live_law m side message h moment s =
+    let g = outcome h moment (message_ask m side message) in
+    let parts = passed_before (check_before m (rules_of s.row) s.read) (check_after m (rules_of s.row) s.read) (is_refused g) s.good in
+    let one = needs_marked m s.read s.row (is_marked m side (command_of m side message) s.row s.found s.marked) in
+    let asked : message_ask m side message ≡ ask.Use (as_needs (one.need ∷ [])) (asked_words m (rules_of s.row) s.read) =
+    ap (ask_by m side message) s.found ∙ (passed_ask m s.row (text_after m side message) s.read s.reads parts.0 ∙ one.asks) in
+    let good : is_refused (outcome h moment (ask.Use (as_needs (one.need ∷ [])) (asked_words m (rules_of s.row) s.read))) ≡ false =
+    subst (λ (a : Ask). is_refused (outcome h moment a) ≡ false) asked parts.1 in
+    let live_grant = live_law h moment one.need (used_met one.need (asked_words m (rules_of s.row) s.read) h moment (is_met (Some one.need) (live h moment) && true) refl good) in
+    record { need = one.need; needed = one.needed; grant = live_grant.0; lives = live_grant.1; covered = live_grant.2 }

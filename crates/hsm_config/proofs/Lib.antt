@@ -1,0 +1,12 @@
+pub mod ArrayLaws
+pub mod Elements
+pub mod HexLaws
+pub mod KeyLaws
+pub mod Listed
+pub mod PairLaws
+pub mod Parts
+pub mod PortLaws
+pub mod ReadLaws
+pub mod RuleLaws
+pub mod TestSet
+pub mod TestedAnswers

@@ -1,0 +1,5 @@
+pub mod RowCases
+pub mod Texts
+pub mod JoinSteps
+pub mod CommandSteps
+pub mod PlanSteps

@@ -1,0 +1,4 @@
+pub mod Components
+pub mod Fields
+pub mod Commands
+pub mod Plans

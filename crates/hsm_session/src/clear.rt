@@ -1,0 +1,33 @@
+//! What is shown in the clear, and who granted it.
+
+ghost use Rattle.std.specs.Prelude.{◌≡◌, ◌<◌, ◌≤◌, ℕ, List, Some, length, slice_get};
+ghost use Rattle.hsm_auth.specs.declared.activity.Activity.{Activity};
+ghost use Rattle.hsm_auth.specs.declared.entry.Ask.TheVariants.{Authorise};
+ghost use Rattle.hsm_auth.specs.declared.entry.Entry.{Entry};
+ghost use Rattle.hsm_rows.specs.declared.settings.Module.{Module};
+ghost use Rattle.hsm_answers.specs.Clear.{ShowsClear};
+ghost use Rattle.hsm_answers.specs.Messages.{Side};
+ghost use Rattle.hsm_session.specs.declared.script.ScriptEnd.{ScriptEnd};
+ghost use Rattle.hsm_session.specs.Clear.{HasMessage, IsByOfficers, IsEntryOf, IsGranted};
+ghost use Rattle.hsm_session.specs.Runs.{Told};
+ghost use Rattle.hsm_session.specs.Scripts.{Said};
+
+use hsm_answers::{clear_where_granted, words_authorise};
+
+/// Each entry of a run is that of a message of the script. One that authorises is that of a console's `A` with both
+/// officers' words. An answer shows a clear key or PIN only at an entry at which a live grant covers the activity that
+/// its row needs, and where the run gave that grant, it was by such an `A`.
+pub fn clear_in_runs()
+    ensures messages { (m : Module) (h : List Entry) (lines : List Said) (last : List Entry) (text : List ℕ) (over : ScriptEnd)
+        → Told m h lines last text over → (i : ℕ) → length h ≤ i → i < length last → HasMessage m last i }
+    ensures officers { (m : Module) (h : List Entry) (lines : List Said) (last : List Entry) (text : List ℕ) (over : ScriptEnd)
+        → Told m h lines last text over → (i : ℕ) (e : Entry) (activity : Activity) (minutes : ℕ) → length h ≤ i
+        → slice_get last i ≡ Some e → e.ask ≡ Authorise activity minutes → IsByOfficers m last i activity minutes }
+    ensures clear { (m : Module) (h : List Entry) (lines : List Said) (last : List Entry) (text : List ℕ) (over : ScriptEnd)
+        → Told m h lines last text over → (i : ℕ) (e : Entry) (side : Side) (moment : ℕ) (message : List ℕ)
+        → slice_get last i ≡ Some e → IsEntryOf m last i side moment message → (s : ShowsClear m side message e.granted)
+        → IsGranted m (length h) last i moment s.row s.read }
+{
+    clear_where_granted();
+    words_authorise();
+}
