@@ -1,5 +1,6 @@
 -- The console rows as commands.
-use Rattle.std.specs.Prelude.{Bool, false, not, ◌&&◌, Result, Ok, Err}
+use Rattle.std.specs.Prelude.{ℕ, Bool, false, not, ◌&&◌, List, Result, Ok, Err, codes, if◌then◌else◌}
+use Rattle.std.specs.Str.{bytes_eq}
 use Rattle.hsm_lmk.specs.Sealing.{wrap}
 use Rattle.hsm_rows.specs.declared.settings.Module.{Module}
 use Rattle.hsm_rows.specs.declared.row.Code.{Code}
@@ -16,6 +17,17 @@ use Rattle.hsm_console.specs.declared.command.Command.TheVariants.{Authorise, Ca
 use Rattle.hsm_console.specs.declared.fields.Sealing.{Sealing}
 use Rattle.hsm_console.specs.declared.fields.ConsoleFields.{ConsoleFields}
 use Rattle.hsm_console.specs.declared.fields.ConsoleFields.TheVariants as fields
+
+-- the command of a word
+abbrev pub command_by : List ℕ → Command
+command_by word =
+    if bytes_eq word (codes "A") then Authorise
+    else if bytes_eq word (codes "C") then Cancel
+    else if bytes_eq word (codes "VA") then Grants
+    else if bytes_eq word (codes "Q") then Numbers
+    else if bytes_eq word (codes "LOG") then Notes
+    else if bytes_eq word (codes "GC") then Draw
+    else Join
 
 -- the row of a command
 abbrev pub row_by : Command → RowShape

@@ -1,18 +1,13 @@
 -- Plans of console texts, and their answers.
-use Rattle.std.specs.Prelude.{◌≡◌, ℕ, Bool, if◌then◌else◌, List, [], ◌++◌, flat_map, Option, Some, None, Result, Ok, Err, codes, slice_index_or}
-use Rattle.sha2.specs.Sha256.{sha256}
-use Rattle.hsm_auth.specs.declared.activity.Activity.{Activity}
+use Rattle.std.specs.Prelude.{◌≡◌, ℕ, Bool, if◌then◌else◌, List, [], ◌++◌, flat_map, Option, Some, None, Result, Ok, Err, codes}
 use Rattle.hsm_auth.specs.declared.entry.Ask.{Ask}
 use Rattle.hsm_auth.specs.declared.entry.Granted.{Granted}
-use Rattle.hsm_auth.specs.Activities.{activity_of}
 use Rattle.hsm_rows.specs.declared.settings.Module.{Module}
 use Rattle.hsm_rows.specs.declared.row.Code.{Code}
-use Rattle.hsm_rows.specs.Table.{RowShape, shape_of, row_A, IsConsoleRow}
-use Rattle.hsm_rows.specs.Forms.{decimal_from}
+use Rattle.hsm_rows.specs.Table.{RowShape, shape_of, IsConsoleRow}
 use Rattle.hsm_rows.specs.Reading.{reading, ReadText}
 use Rattle.hsm_rows.specs.Rules.{rules_of}
 use Rattle.hsm_answers.specs.declared.plans.Checked.{Checked}
-use Rattle.hsm_answers.specs.Keys.{field_text}
 use Rattle.hsm_answers.specs.Values.{values}
 use Rattle.hsm_answers.specs.Answers.{no_code, is_full}
 use Rattle.hsm_answers.specs.Plans.{IsPlanned, fault_at}

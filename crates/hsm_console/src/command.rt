@@ -1,19 +1,19 @@
 //! The console rows as an enum.
 ghost use Rattle.std.specs.Prelude.{◌≡◌, false, IfOk};
 ghost use Rattle.hsm_auth.specs.History.{CanAsk};
-ghost use Rattle.hsm_rows.specs.Table.{shape_of, IsConsoleRow};
+ghost use Rattle.hsm_rows.specs.Table.{shape_of};
 ghost use Rattle.hsm_rows.specs.Reading.{read_text_of};
 ghost use Rattle.hsm_answers.specs.Given.{code_in};
 ghost use Rattle.hsm_answers.specs.Checks.{check_before};
 ghost use Rattle.hsm_answers.specs.Asks.{row_ask};
-ghost use Rattle.hsm_console.specs.Commands.{row_by, rules_by, fields_by, TextsStand, refuses_words};
+ghost use Rattle.hsm_console.specs.Commands.{command_by, rules_by, fields_by, TextsStand, refuses_words};
 ghost use Rattle.hsm_console.specs.Fields.{CanMake};
 
 use crate::asks::{authorised, cancelled};
 use crate::components::{check_draw, check_join};
 use crate::fields::ConsoleFields;
 use hsm_auth::Ask;
-use hsm_rows::{Code, Fields, Module, Row, same_text};
+use hsm_rows::{Code, Fields, Module, Row};
 
 // A console command.
 #[derive(Clone, Copy)]
@@ -48,23 +48,16 @@ pub(crate) fn without_words(ask: Ask, fields: ConsoleFields) -> Passed
 
 // The command of a row.
 pub(crate) fn command_of(row: &Row) -> Command
-    requires { IsConsoleRow (shape_of row.now) }
-    ensures { shape_of row.now ≡ row_by result }
+    ensures { result ≡ command_by (shape_of row.now).code }
 {
-    if same_text(row.code, b"A") {
-        Command::Authorise
-    } else if same_text(row.code, b"C") {
-        Command::Cancel
-    } else if same_text(row.code, b"VA") {
-        Command::Grants
-    } else if same_text(row.code, b"Q") {
-        Command::Numbers
-    } else if same_text(row.code, b"LOG") {
-        Command::Notes
-    } else if same_text(row.code, b"GC") {
-        Command::Draw
-    } else {
-        Command::Join
+    match row.code {
+        b"A" => Command::Authorise,
+        b"C" => Command::Cancel,
+        b"VA" => Command::Grants,
+        b"Q" => Command::Numbers,
+        b"LOG" => Command::Notes,
+        b"GC" => Command::Draw,
+        _ => Command::Join,
     }
 }
 

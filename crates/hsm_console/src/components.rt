@@ -1,5 +1,5 @@
 //! Components that are drawn, and keys that are formed from components.
-ghost use Rattle.std.specs.Prelude.{◌≡◌, false, ◌≤◌, IfOk};
+ghost use Rattle.std.specs.Prelude.{◌≡◌, false, IfOk};
 ghost use Rattle.hsm_auth.specs.History.{CanAsk};
 ghost use Rattle.hsm_rows.specs.Rules.{rules_GC, rules_FK, use_ask};
 ghost use Rattle.hsm_rows.specs.Reading.{read_text_of};
@@ -10,7 +10,7 @@ ghost use Rattle.hsm_answers.specs.Asks.{row_ask};
 ghost use Rattle.hsm_console.specs.declared.command.Command.TheVariants.{Draw, Join};
 ghost use Rattle.hsm_console.specs.Components.{component_ask};
 ghost use Rattle.hsm_console.specs.Commands.{sealing, fields_by};
-ghost use Rattle.hsm_console.specs.Fields.{CanMake, CanSeal};
+ghost use Rattle.hsm_console.specs.Fields.{CanMake};
 
 use crate::command::{Passed, without_words};
 use crate::fields::{ConsoleFields, Sealing};

@@ -1,5 +1,5 @@
 //! The reply fields of the console rows.
-ghost use Rattle.std.specs.Prelude.{◌≡◌, ◌+◌, ◌^◌, ◌<◌, ◌≤◌, ◌++◌, codes, length};
+ghost use Rattle.std.specs.Prelude.{◌≡◌, ◌+◌, ◌^◌, ◌<◌, ◌≤◌, ◌++◌, length};
 ghost use Rattle.hsm_types.specs.Schemes.{scheme_parts};
 ghost use Rattle.hsm_answers.specs.Values.{first_of, cancelled_of};
 ghost use Rattle.hsm_console.specs.Fields.{clear_text, sealed_values, spaced_values, made_values, CanSeal, CanMake};

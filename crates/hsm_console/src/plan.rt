@@ -1,13 +1,10 @@
 //! Plans of console texts.
-ghost use Rattle.std.specs.Prelude.{◌≡◌, false, ◌^◌, ◌<◌, ◌≤◌, ◌++◌, ℕ, length};
-ghost use Rattle.hsm_auth.specs.declared.activity.Activity.{Activity};
-ghost use Rattle.hsm_auth.specs.declared.entry.Ask.TheVariants.{Authorise};
+ghost use Rattle.std.specs.Prelude.{◌≡◌, ◌^◌, ◌<◌, ◌≤◌, ◌++◌, length};
 ghost use Rattle.hsm_auth.specs.History.{CanAsk, Fits};
 ghost use Rattle.hsm_rows.specs.Table.{shape_of, IsConsoleRow};
 ghost use Rattle.hsm_answers.specs.Answers.{answer, is_full};
-ghost use Rattle.hsm_answers.specs.Asks.{ask_of, empty_ask};
+ghost use Rattle.hsm_answers.specs.Asks.{ask_of};
 ghost use Rattle.hsm_answers.specs.Values.{first_of};
-ghost use Rattle.hsm_console.specs.declared.fields.ConsoleFields.TheVariants.{Done};
 ghost use Rattle.hsm_console.specs.Fields.{CanMake, made_values};
 ghost use Rattle.hsm_console.specs.Plans.{plan_row, plan_text, plan_ask, good_text, IsPlanOf};
 

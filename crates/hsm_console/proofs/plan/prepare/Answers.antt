@@ -11,17 +11,18 @@ use Rattle.hsm_console.specs.Fields.{made_values}
 use Rattle.hsm_console.specs.Plans.{unspaced}
 use Rattle.hsm_console.proofs.CommandSteps.{few_fields, console_row, failed_words, texts_stand, before_is, after_is, ask_is, words_are, values_of}
 use Rattle.hsm_console.proofs.PlanSteps.{no_trailer, unread_values, failed_values, passed_values, words_unread, words_read}
+use Rattle.hsm_console.proofs.RowCases.{same_row}
 use Rattle.hsm_console.proofs.plan.prepare.Goals as goal
 
 pub read_fields-requires : goal.read_fields-requires
-read_fields-requires c = record { few = few_fields c.args.row.now c.command_of-command.result c.command_of-command.ensures }
+read_fields-requires c = record { few = few_fields c.args.row.now c.command_of-command.result (same_row (shape_of c.args.row.now) c.requires c.command_of-command.result c.command_of-command.ensures) }
 
 pub check-requires : goal.check-requires
 check-requires c =
     let row = shape_of c.args.row.now in
     let r = read_text_of c.in-Ok.fields in
     texts_stand c.args.text.now r c.command_of-command.result c.console_texts_stand.ensures.authorisation c.console_texts_stand.ensures.components
-    (ap (λ (d : RowShape). reading d c.args.text.now) (sym c.command_of-command.ensures) ∙ c.in-Ok.ensures.reading)
+    (ap (λ (d : RowShape). reading d c.args.text.now) (sym (same_row row c.requires c.command_of-command.result c.command_of-command.ensures)) ∙ c.in-Ok.ensures.reading)
 
 pub returns-in-Err-clause-plan : goal.returns-in-Err-clause-plan
 returns-in-Err-clause-plan c =
@@ -48,7 +49,7 @@ returns-in-Err-check-clause-plan c =
     let row = shape_of c.args.row.now in
     let text = c.args.text.now in
     let command = c.command_of-command.result in
-    let same = c.command_of-command.ensures in
+    let same = same_row row c.requires command c.command_of-command.ensures in
     let code = c.in-Err-check.code in
     let r = read_text_of c.in-Ok.fields in
     let read = c.in-Ok.ensures.reading in
@@ -75,7 +76,7 @@ returns-in-Ok-check-clause-plan c =
     let row = shape_of c.args.row.now in
     let text = c.args.text.now in
     let command = c.command_of-command.result in
-    let same = c.command_of-command.ensures in
+    let same = same_row row c.requires command c.command_of-command.ensures in
     let passed = c.in-Ok-check.passed in
     let checks = c.in-Ok-check.ensures in
     let r = read_text_of c.in-Ok.fields in
