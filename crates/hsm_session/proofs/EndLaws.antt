@@ -1,15 +1,14 @@
 -- The lanes at the end of a script, and at its beginning.
-use Rattle.std.proofs.Common.{◌≡◌, ℕ, ◌+◌, Bool, true, false, List, [], ◌∷◌, ◌++◌, length, map, take, drop, get_or, count_by, sum_by, cond, ◌<◌, ◌≤◌, None, length-take, refl, sym, ap, subst, ◌∙◌, append_assoc, append-nil, arith}
+use Rattle.std.proofs.Common.{◌≡◌, ℕ, ◌+◌, Bool, true, false, List, [], ◌∷◌, ◌++◌, length, map, take, drop, get_or, count_by, cond, ◌<◌, ◌≤◌, None, length-take, refl, sym, ap, subst, ◌∙◌, append_assoc, append-nil, arith}
 use Rattle.std.proofs.lemmas.List.{length-map, map-append, take_more, take-append-drop}
 use Rattle.std.proofs.lemmas.List.Sums.{sum_by-append}
 use Rattle.hsm_io.specs.Texts.{Appends, AppendsFront}
 use Rattle.hsm_io.proofs.TextLemmas.{appends_then_front, front_of_more}
-use Rattle.hsm_frame.specs.Frames.{StreamEnd, Whole, Part, Short}
-use Rattle.hsm_frame.specs.Calls.{Held}
+use Rattle.hsm_frame.specs.Frames.{StreamEnd}
 use Rattle.hsm_rows.specs.declared.settings.Module.{Module}
 use Rattle.hsm_session.specs.declared.lane.Lane.{Lane}
 use Rattle.hsm_session.specs.Plans.{least_length}
-use Rattle.hsm_session.specs.Runs.{end_line, end_lines, is_cut, is_short}
+use Rattle.hsm_session.specs.Runs.{end_line, end_lines}
 use Rattle.hsm_session.specs.Lanes.{IsLaneAt, all_held, lane_end}
 
 end_lines_more : (lane : ℕ) (ends : List StreamEnd) (end : StreamEnd) → end_lines lane (ends ++ end ∷ []) ≡ end_lines lane ends ++ end_line (lane + length ends) end

@@ -1,5 +1,5 @@
 -- Each host row is of the family of its code.
-use Rattle.std.proofs.Common.{◌≡◌, ℕ, zero, suc, List, [], ◌∷◌, refl, inl, inr, subst, sym, arith}
+use Rattle.std.proofs.Common.{◌≡◌, zero, suc, List, [], ◌∷◌, refl, inl, inr, subst, sym, arith}
 use Rattle.std.specs.List.{AllByRecursion, Contains}
 use Rattle.hsm_rows.specs.Table.{RowShape, IsHostRow, host_rows, row_A0, row_A6, row_A8, row_BU, row_CA, row_CC, row_DE, row_DG, row_DA, row_EA, row_DC, row_EC, row_BA, row_NG, row_JA, row_CW, row_CY, row_M6, row_M8, row_B2, row_NC, row_NO, row_RA}
 use Rattle.hsm_session.specs.Plans.{IsOf, family_by}

@@ -1,9 +1,9 @@
 -- Decimal numbers read digit by digit.
-use Rattle.std.proofs.Common.{◌≡◌, nat_le, false, None, Some, ℕ, ◌+◌, ◌-◌, ◌*◌, ◌≤◌, ◌<◌, List, [], ◌∷◌, ◌++◌, length, take, drop, get_or, refl, sym, ap, ◌∙◌, subst, arith}
+use Rattle.std.proofs.Common.{◌≡◌, nat_le, false, None, Some, ℕ, ◌+◌, ◌-◌, ◌*◌, ◌≤◌, ◌<◌, List, [], ◌∷◌, ◌++◌, length, take, drop, get_or, refl, sym, ap, ◌∙◌, arith}
 use Rattle.std.proofs.lemmas.Bool.{lt-leb}
 use Rattle.std.proofs.lemmas.List.{take_more, take-append-drop}
 use Rattle.hsm_rows.specs.Forms.{decimal_from}
-use Rattle.hsm_session.specs.Scripts.{number_within, is_number}
+use Rattle.hsm_session.specs.Scripts.{number_within}
 
 decimal_from-append : (v : ℕ) (a b : List ℕ) → decimal_from v (a ++ b) ≡ decimal_from (decimal_from v a) b
 decimal_from-append v [] b = refl

@@ -1,5 +1,5 @@
 -- How far a run of a script has come.
-use Rattle.std.proofs.Common.{◌≡◌, ℕ, ◌+◌, ◌≤◌, length-append, List, [], ◌∷◌, ◌++◌, length, map, count_by, slice_get, refl, sym, ap, subst, ◌∙◌, append-nil, append_assoc, Option, Some, None, arith}
+use Rattle.std.proofs.Common.{◌≡◌, ℕ, ◌+◌, length-append, List, [], ◌∷◌, ◌++◌, length, map, count_by, slice_get, refl, sym, ap, subst, ◌∙◌, append-nil, append_assoc, Option, Some, None, arith}
 use Rattle.std.specs.Option.{option_map}
 use Rattle.std.proofs.lemmas.List.{length-map}
 use Rattle.std.proofs.lemmas.Option.{slice_get-map}
@@ -17,8 +17,8 @@ use Rattle.hsm_session.specs.declared.script.ScriptEnd.{ScriptEnd}
 use Rattle.hsm_session.specs.Plans.{least_length}
 use Rattle.hsm_session.specs.Scripts.{Said}
 use Rattle.hsm_session.specs.Booking.{IsKnown}
-use Rattle.hsm_session.specs.Runs.{AreEnds, Prints, Runs, Stops, Told, end_lines, got, is_cut, is_short, last_line}
-use Rattle.hsm_session.specs.Lanes.{BringBytes, Ends, IsAt, IsLaneAt, StopsLine, TakesLine, lane_end, run_end}
+use Rattle.hsm_session.specs.Runs.{AreEnds, Prints, Runs, Stops, end_lines, got, is_cut, is_short, last_line}
+use Rattle.hsm_session.specs.Lanes.{BringBytes, Ends, IsAt, StopsLine, TakesLine, lane_end, run_end}
 use Rattle.hsm_session.proofs.Existence.{ends_exist, first_bring, prints_exist}
 use Rattle.hsm_session.proofs.Running.{framed}
 

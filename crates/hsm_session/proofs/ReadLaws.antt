@@ -1,5 +1,5 @@
 -- What a script that reads says is within its limits.
-use Rattle.std.proofs.Common.{◌≡◌, ℕ, zero, suc, slice_index, slice_index_or, ◌^◌, ◌+◌, ◌≤◌, ◌<◌, ◌==◌, ◌&&◌, nat_le, if◌then◌else◌, Bool, true, false, List, [], ◌∷◌, ◌++◌, length, take, drop, sum_by, position, Option, Some, None, Result, Ok, Err, codes, bytes_eq, refl, sym, ap, subst, ◌∙◌, arith, length-drop}
+use Rattle.std.proofs.Common.{◌≡◌, ℕ, zero, suc, slice_index, slice_index_or, ◌^◌, ◌+◌, ◌≤◌, ◌<◌, ◌==◌, ◌&&◌, nat_le, if◌then◌else◌, Bool, true, false, List, [], ◌∷◌, ◌++◌, length, take, drop, sum_by, position, Option, Some, None, Result, Ok, Err, codes, bytes_eq, refl, sym, subst, arith, length-drop}
 use Rattle.std.specs.List.{AllByRecursion, list_all}
 use Rattle.std.proofs.lemmas.List.Sums.{sum_by-cons}
 use Rattle.std.specs.Option.{option_map}

@@ -1,5 +1,5 @@
 -- A piece whose answers were not wholly written.
-use Rattle.std.proofs.Common.{◌≡◌, ℕ, ◌+◌, List, [], ◌∷◌, ◌++◌, length, flat_map, Option, Some, None, refl, sym, ap, subst, ◌∙◌, append_assoc, append-nil, arith}
+use Rattle.std.proofs.Common.{◌≡◌, ℕ, List, [], ◌++◌, flat_map, Option, Some, None, refl, sym, ap, subst, ◌∙◌, append_assoc, append-nil}
 use Rattle.std.specs.List.{AllByRecursion}
 use Rattle.hsm_frame.specs.Frames.{Frames, frame, IsMessage, IsShort, IsTail, Short}
 use Rattle.hsm_frame.specs.Calls.{Held}
@@ -7,11 +7,10 @@ use Rattle.hsm_frame.specs.Laws.{HasReading}
 use Rattle.hsm_io.specs.Texts.{AppendsFront}
 use Rattle.hsm_auth.specs.declared.entry.Entry.{Entry}
 use Rattle.hsm_auth.specs.declared.ledger.Ledger.{Ledger}
-use Rattle.hsm_auth.specs.History.{StandsFor}
 use Rattle.hsm_rows.specs.declared.settings.Module.{Module}
 use Rattle.hsm_session.specs.Booking.{answer_lines, entries_of, BooksSome}
 use Rattle.hsm_session.specs.Runs.{piece_text, after_answers, short_line, closed_line}
-use Rattle.hsm_session.specs.Lanes.{AreBytes, StopsDraining, StopsPiece, IsBehind, end_of, lane_end}
+use Rattle.hsm_session.specs.Lanes.{AreBytes, StopsDraining, StopsPiece, end_of, lane_end}
 use Rattle.hsm_session.specs.declared.lane.Lane.{Lane}
 use Rattle.hsm_session.proofs.Answering.{each_append}
 use Rattle.hsm_session.proofs.BookingLaws.{books_nothing, front_after, front_same, front_text, some_longer, some_more}

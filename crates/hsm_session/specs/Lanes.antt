@@ -9,8 +9,6 @@ use Rattle.hsm_auth.specs.declared.ledger.Ledger.{Ledger}
 use Rattle.hsm_auth.specs.History.{StandsFor}
 use Rattle.hsm_io.specs.Texts.{Appends}
 use Rattle.hsm_rows.specs.declared.settings.Module.{Module}
-use Rattle.hsm_session.specs.declared.plans.Kind.{Kind}
-use Rattle.hsm_session.specs.declared.plans.Kind.TheVariants.{Host, Console}
 use Rattle.hsm_session.specs.declared.lane.Drained.{Drained}
 use Rattle.hsm_session.specs.declared.lane.Lane.{Lane}
 use Rattle.hsm_session.specs.declared.run.Run.{Run}

@@ -279,6 +279,7 @@ impl Lane {
         ensures failed { OnErr result (Rose (S.faults out.old) (S.faults out.new)) }
         ensures kept { OnOk result (S.faults out.new ≡ S.faults out.old) }
     {
+        // What follows a failed write has a reading too.
         has_one_reading();
         if let Some(_) = self.short {
             buffers.print_words(self.number, b"closed\n", out)?;

@@ -65,7 +65,10 @@ impl<'m> Plan<'m> {
 fn is_disabled(module: &Module, code: &[u8]) -> bool
     ensures { result ≡ list_any (bytes_eq code.now) «module».now.disabled.items }
 {
-    module.disabled.iter().any(|disabled| same_text(code, disabled))
+    module
+        .disabled
+        .iter()
+        .any(|disabled| same_text(code, disabled))
 }
 
 // The host row of a code, where the module doesn't disable it.

@@ -50,6 +50,7 @@ pub fn script_run<S: Sink>(
     ensures answers { RunAnswers «module».now (script_of «module».now.hosts script.now) ledger.old ledger.new (S.stands_for out.old) (S.stands_for out.new) result }
     ensures cause { OutRose (S.faults out.old) (S.faults out.new) result }
 {
+    // What follows a failed write has a reading too.
     has_one_reading();
     let lines = read_script(alloc, module.hosts, script)?;
     let Ok(mut run) = Run::open(alloc, module) else {

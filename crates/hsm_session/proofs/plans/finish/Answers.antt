@@ -1,6 +1,6 @@
-use Rattle.std.proofs.Common.{◌≡◌, ◌++◌, List, ℕ, length, sym, ap, ◌∙◌, arith}
+use Rattle.std.proofs.Common.{◌++◌, List, ℕ, length, sym, ap, ◌∙◌, arith}
 use Rattle.hsm_answers.specs.Answers.{answer}
-use Rattle.hsm_answers.specs.Messages.{unknown_answer, command_of, header_of}
+use Rattle.hsm_answers.specs.Messages.{unknown_answer, command_of}
 use Rattle.hsm_keycmd.specs.Plans as key
 use Rattle.hsm_pincmd.specs.Plans as pin
 use Rattle.hsm_datacmd.specs.Plans as held

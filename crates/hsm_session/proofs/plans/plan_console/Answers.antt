@@ -1,4 +1,4 @@
-use Rattle.std.proofs.Common.{◌≡◌, List, ℕ, take, drop, sym, ap, ◌∙◌}
+use Rattle.std.proofs.Common.{◌≡◌, ℕ, take, drop, sym, ap, ◌∙◌}
 use Rattle.std.specs.Prelude.{None, Some}
 use Rattle.std.specs.Option.{option_map}
 use Rattle.std.proofs.lemmas.List.Folds.{length-prefix_len}
@@ -6,7 +6,7 @@ use Rattle.hsm_rows.specs.Forms.{is_no_space}
 use Rattle.hsm_rows.specs.Table.{shown_shape, shape_of}
 use Rattle.hsm_answers.specs.Asks.{ask_of}
 use Rattle.hsm_answers.specs.Messages.{console, command_of, enabled_row}
-use Rattle.hsm_session.proofs.PlanLaws.{unknown_ask, row_ask_is, unknown_plan, row_plan}
+use Rattle.hsm_session.proofs.PlanLaws.{unknown_ask, row_ask_is}
 use Rattle.hsm_session.proofs.plans.plan_console.Goals as goal
 
 pub returns-in-None-clause-ask : goal.returns-in-None-clause-ask

@@ -1,9 +1,9 @@
-use Rattle.std.proofs.Common.{◌≡◌, List, ℕ, sym, ap, ◌∙◌}
+use Rattle.std.proofs.Common.{List, ℕ, sym, ap, ◌∙◌}
 use Rattle.std.specs.Prelude.{None, Some}
 use Rattle.std.specs.Option.{option_map}
 use Rattle.hsm_rows.specs.Table.{shown_shape, shape_of}
 use Rattle.hsm_answers.specs.Asks.{ask_of}
-use Rattle.hsm_answers.specs.Messages.{host, command_of, enabled_row}
+use Rattle.hsm_answers.specs.Messages.{host}
 use Rattle.hsm_session.proofs.PlanLaws.{IsCut, cut, code_row, unknown_ask, row_ask_is, unknown_plan, row_plan}
 use Rattle.hsm_session.proofs.plans.plan_host.Goals as goal
 

@@ -1,12 +1,12 @@
-use Rattle.std.proofs.Common.{◌≡◌, ◌∙◌, ◌+◌, ◌≤◌, ◌∷◌, [], ℕ, List, Ok, length, sum_by, drop, refl, sym, ap, subst, arith}
+use Rattle.std.proofs.Common.{◌≡◌, ◌∙◌, ◌+◌, ◌∷◌, [], List, Ok, sum_by, drop, refl, sym, ap, subst, arith}
 use Rattle.std.specs.List.{AllByRecursion}
 use Rattle.std.proofs.lemmas.Grind.{common_steps}
 use Rattle.std.proofs.lemmas.List.{drop_all}
 use Rattle.std.proofs.lemmas.List.Sums.{sum_by-cons}
 use Rattle.hsm_session.specs.declared.lines.Line.{Line}
-use Rattle.hsm_session.specs.Scripts.{Said, script_of}
+use Rattle.hsm_session.specs.Scripts.{Said}
 use Rattle.hsm_session.specs.Reading.{all_said, said_of}
-use Rattle.hsm_session.specs.Lanes.{IsLine, TakesLine, all_held, weight}
+use Rattle.hsm_session.specs.Lanes.{IsLine, weight}
 use Rattle.hsm_session.proofs.Progress.{SoFar, so_far_cut, so_far_stopped, so_far_start, so_far_next, so_far_done, so_far_known}
 use Rattle.hsm_session.proofs.ReadLaws.{script_brings, script_within}
 use Rattle.hsm_session.proofs.script.script_run.Goals as goal

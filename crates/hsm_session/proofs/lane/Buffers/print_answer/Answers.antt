@@ -1,4 +1,4 @@
-use Rattle.std.proofs.Common.{◌≡◌, ◌∷◌, [], ◌∙◌, arith}
+use Rattle.std.proofs.Common.{◌≡◌, ◌∷◌, [], arith}
 use Rattle.std.proofs.lemmas.Grind.{common_steps}
 use Rattle.hsm_io.specs.Texts.{Appends, AppendsFront}
 use Rattle.hsm_session.specs.Booking.{reply_line, BooksAll, BooksSome}

@@ -2,7 +2,7 @@ use Rattle.std.proofs.Common.{[], ◌≡◌, ◌∙◌, ◌+◌, ◌++◌, ℕ, 
 use Rattle.hsm_frame.specs.Calls.{Held, IsNotYet}
 use Rattle.hsm_frame.specs.Frames.{IsShort}
 use Rattle.hsm_session.specs.declared.lane.Lane.{Lane}
-use Rattle.hsm_session.specs.Runs.{short_line, closed_line}
+use Rattle.hsm_session.specs.Runs.{closed_line}
 use Rattle.hsm_session.proofs.Feeding.{Feeds, feeds_none, feeds_more, feeds_piece, feeds_short, feeds_closed, parted, all_parted}
 use Rattle.hsm_session.proofs.BookingLaws.{for_err, still_known}
 use Rattle.hsm_session.specs.Lanes.{StopsPiece}

@@ -1,9 +1,8 @@
-use Rattle.std.proofs.Common.{◌≡◌, ℕ, List, [], ◌∷◌, refl, sym, ap, subst}
+use Rattle.std.proofs.Common.{ℕ, List, [], ◌∷◌, refl, subst}
 use Rattle.hsm_auth.specs.declared.entry.Entry.{Entry}
 use Rattle.hsm_auth.specs.History.{StandsFor}
 use Rattle.hsm_answers.specs.Messages.{console}
 use Rattle.hsm_session.specs.Booking.{Books, BooksFront, console_line, entry_of, reply_of}
-use Rattle.hsm_session.specs.Lanes.{TakesLine}
 use Rattle.std.specs.Result.{OnErr}
 use Rattle.hsm_session.specs.Scripts.{Piece}
 use Rattle.hsm_session.specs.Reading.{said_of}
