@@ -1,24 +1,26 @@
--- What a script that was served says of the bytes of its file.
-use Rattle.std.proofs.Common.{◌≡◌, ◌≤◌, ℕ, List, [], length, sym, ap, subst, ◌∙◌, Ok}
+-- What a script that was run says of the bytes of its file.
+use Rattle.std.proofs.Common.{◌≡◌, ◌≤◌, ℕ, List, [], length, sym, ap, subst, ◌∙◌, Ok, Err}
 use Rattle.hsm_auth.specs.declared.ledger.Ledger.{Ledger}
 use Rattle.hsm_auth.specs.History.{IsLegal, StandsFor}
 use Rattle.hsm_rows.specs.declared.settings.Module.{Module}
 use Rattle.hsm_session.specs.declared.script.ScriptEnd.{ScriptEnd}
-use Rattle.hsm_session.specs.Scripts.{pieces_of}
-use Rattle.hsm_session.specs.Runs.{Told, RunAnswers}
+use Rattle.hsm_session.specs.declared.script.ScriptFault.{ScriptFault}
+use Rattle.hsm_session.specs.declared.script.ScriptFault.TheVariants.{Out}
+use Rattle.hsm_session.specs.Scripts.{script_of}
+use Rattle.hsm_session.specs.Runs.{RunAnswers}
 use Rattle.hsm_tool.specs.Files.{file_limit}
 use Rattle.hsm_tool.specs.Runs.{AnswersScript, status_of}
 use Rattle.hsm_tool.specs.declared.run.Ended.{Ended}
-use Rattle.hsm_tool.specs.declared.run.Outcome.TheVariants.{Served}
+use Rattle.hsm_tool.specs.declared.run.Outcome.TheVariants.{Served, OutFault}
 
 no_entries_are_legal : IsLegal []
 no_entries_are_legal = λ i e is. absurd (cc)
 
-pub served : (m ran : Module) (bytes script : List ℕ) (over : ScriptEnd) (status : ℕ) (ended : Ended) (old new : Ledger) (before after : List ℕ → Type 0)
-    → ran ≡ m → script ≡ bytes → length bytes ≤ file_limit → StandsFor old [] → RunAnswers ran (pieces_of script) old new before after (Ok over)
+pub served : (m : Module) (bytes script : List ℕ) (over : ScriptEnd) (status : ℕ) (ended : Ended) (old new : Ledger) (before after : List ℕ → Type 0)
+    → script ≡ bytes → length bytes ≤ file_limit → StandsFor old [] → RunAnswers m (script_of m.hosts script) old new before after (Ok over)
     → ended ≡ record { status = status; outcome = Served } → status ≡ status_of over
     → AnswersScript m bytes before after ended.status ended.outcome
-served m ran bytes script over status ended old new before after same read fits empty answers is counts =
+served m bytes script over status ended old new before after read fits empty answers is counts =
     let runs = answers.2 [] empty in
     subst (λ (e : Ended). AnswersScript m bytes before after e.status e.outcome) (sym is) (
       fits,
@@ -27,10 +29,21 @@ served m ran bytes script over status ended old new before after same read fits 
         runs.last,
         runs.text,
         over,
-        ap pieces_of (sym read) ∙ answers.1,
-        subst (λ (n : Module). Told n [] answers.0 runs.last runs.text over) same runs.told,
+        ap (script_of m.hosts) (sym read) ∙ answers.1,
+        runs.told,
         runs.legal no_entries_are_legal,
         runs.printed,
         counts,
       ),
+    )
+
+pub stopped : (m : Module) (bytes script : List ℕ) (fault : ScriptFault) (status : ℕ) (ended : Ended) (old new : Ledger) (before after : List ℕ → Type 0)
+    → script ≡ bytes → length bytes ≤ file_limit → StandsFor old [] → RunAnswers m (script_of m.hosts script) old new before after (Err fault) → fault ≡ Out
+    → ended ≡ record { status = status; outcome = OutFault } → AnswersScript m bytes before after ended.status ended.outcome
+stopped m bytes script fault status ended old new before after read fits empty answers out is =
+    let stop = subst (λ (f : ScriptFault). RunAnswers m (script_of m.hosts script) old new before after (Err f)) out answers in
+    let stops = stop.2 [] empty in
+    subst (λ (e : Ended). AnswersScript m bytes before after e.status e.outcome) (sym is) (
+      fits,
+      (stop.0, stops.last, stops.text, stops.over, ap (script_of m.hosts) (sym read) ∙ stop.1, stops.told, stops.printed),
     )

@@ -2,14 +2,14 @@
 use Rattle.std.specs.Prelude.{◌≡◌, ℕ, ◌+◌, ◌<◌, ◌≤◌, ◌⊎◌, ◌==◌, List, [], length, if◌then◌else◌, Result, Ok, Err}
 use Rattle.hsm_io.specs.Outside.{Rose}
 use Rattle.hsm_io.specs.Files.{kept_name}
-use Rattle.hsm_io.specs.Texts.{Appends, Stays}
+use Rattle.hsm_io.specs.Texts.{Appends, AppendsFront, Stays}
 use Rattle.hsm_rows.specs.Table.{RowShape}
 use Rattle.hsm_rows.specs.Explain.{explain_text}
 use Rattle.hsm_auth.specs.declared.entry.Entry.{Entry}
 use Rattle.hsm_auth.specs.History.{IsLegal}
 use Rattle.hsm_rows.specs.declared.settings.Module.{Module}
 use Rattle.hsm_session.specs.declared.script.ScriptEnd.{ScriptEnd}
-use Rattle.hsm_session.specs.Scripts.{pieces_of}
+use Rattle.hsm_session.specs.Scripts.{Said, script_of}
 use Rattle.hsm_session.specs.Runs.{Told}
 use Rattle.hsm_tool.specs.Files.{file_limit}
 use Rattle.hsm_tool.specs.Words.{Asked, usage, script, check, explain}
@@ -135,20 +135,23 @@ status_of over = if over.cut + over.short == 0 then 0 else 6
 abbrev pub AnswersScript : Module → List ℕ → (List ℕ → Type 0) → (List ℕ → Type 0) → ℕ → Outcome → Type 0
 AnswersScript m bytes before after status Served =
     (length bytes ≤ file_limit)
-    × ((pieces : List (List ℕ)) × (last : List Entry) × (text : List ℕ) × (over : ScriptEnd)
-    × (pieces_of bytes ≡ Ok pieces) × Told m [] pieces last text over × IsLegal last × Appends before after text × (status ≡ status_of over))
-AnswersScript m bytes before after status OutFault = (length bytes ≤ file_limit) × ((pieces : List (List ℕ)) × (pieces_of bytes ≡ Ok pieces))
+    × ((lines : List Said) × (last : List Entry) × (text : List ℕ) × (over : ScriptEnd)
+    × (script_of m.hosts bytes ≡ Ok lines) × Told m [] lines last text over × IsLegal last × Appends before after text × (status ≡ status_of over))
+AnswersScript m bytes before after status OutFault =
+    (length bytes ≤ file_limit)
+    × ((lines : List Said) × (last : List Entry) × (text : List ℕ) × (over : ScriptEnd)
+    × (script_of m.hosts bytes ≡ Ok lines) × Told m [] lines last text over × AppendsFront before after text)
 AnswersScript m bytes before after status FileLong = file_limit < length bytes
-AnswersScript m bytes before after status (ScriptRefused line) = (length bytes ≤ file_limit) × (pieces_of bytes ≡ Err line)
+AnswersScript m bytes before after status (ScriptRefused line) = (length bytes ≤ file_limit) × (script_of m.hosts bytes ≡ Err line)
 AnswersScript m bytes before after status (Usage place) = ⊥
 AnswersScript m bytes before after status (ConfigRefused why) = ⊥
 AnswersScript m bytes before after status FileFault = Unit {0}
 AnswersScript m bytes before after status Memory = Unit {0}
 
--- The line of a configuration is written and the status is 0, or its file or a write failed, or memory ran out.
+-- The line of a configuration is written and the status is 0, or a part from its front where a write failed; or its file failed, or memory ran out.
 abbrev pub AnswersCheck : Config → (List ℕ → Type 0) → (List ℕ → Type 0) → ℕ → Outcome → Type 0
 AnswersCheck config before after status Served = Appends before after (check_text config) × (status ≡ 0)
-AnswersCheck config before after status OutFault = Unit {0}
+AnswersCheck config before after status OutFault = AppendsFront before after (check_text config)
 AnswersCheck config before after status FileFault = Unit {0}
 AnswersCheck config before after status Memory = Unit {0}
 AnswersCheck config before after status (Usage place) = ⊥
@@ -156,10 +159,10 @@ AnswersCheck config before after status FileLong = ⊥
 AnswersCheck config before after status (ConfigRefused why) = ⊥
 AnswersCheck config before after status (ScriptRefused line) = ⊥
 
--- A row's lines are written and the status is 0, or a write failed.
+-- A row's lines are written and the status is 0, or a part from their front where a write failed.
 abbrev pub AnswersRow : RowShape → (List ℕ → Type 0) → (List ℕ → Type 0) → ℕ → Outcome → Type 0
 AnswersRow row before after status Served = Appends before after (explain_text row) × (status ≡ 0)
-AnswersRow row before after status OutFault = Unit {0}
+AnswersRow row before after status OutFault = AppendsFront before after (explain_text row)
 AnswersRow row before after status (Usage place) = ⊥
 AnswersRow row before after status FileFault = ⊥
 AnswersRow row before after status FileLong = ⊥

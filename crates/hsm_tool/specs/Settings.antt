@@ -1,7 +1,6 @@
 -- What the file of a configuration says.
 use Rattle.std.specs.Prelude.{◌≡◌, ◌≤◌, ℕ, ◌++◌, ◌∷◌, List, [], length, replicate, codes, decimal, Ok}
 use Rattle.hsm_rows.specs.declared.settings.Module.{Module}
-use Rattle.hsm_session.specs.Plans.{unbuilt}
 use Rattle.hsm_config.specs.declared.configuration.Config.{Config}
 use Rattle.hsm_config.specs.Configs.{config_in, module_of}
 use Rattle.hsm_tool.specs.Files.{file_limit}
@@ -14,9 +13,9 @@ Says bytes config = (length bytes ≤ file_limit) × (config_in bytes ≡ Ok con
 abbrev pub IsConfig : List ℕ → Type 0
 IsConfig bytes = (config : Config) × Says bytes config
 
--- the module of a script's run: that of the configuration with a seed of zeros, the rows disabled that are not built
+-- the module of a script's run: that of the configuration with a seed of zeros
 abbrev pub run_module : Config → Module
-run_module config = record (module_of config (replicate 32 0)) { disabled = record { items = unbuilt } }
+run_module config = module_of config (replicate 32 0)
 
 -- what is printed of a configuration that is checked: the number of its host ports
 abbrev pub check_text : Config → List ℕ

@@ -4,7 +4,6 @@ ghost use Rattle.std.specs.Prelude.{◌≡◌, ◌<◌, ◌≤◌, ◌⊎◌, �
 ghost use Rattle.hsm_io.specs.Outside.{Rose};
 ghost use Rattle.hsm_io.specs.Files.{kept_name};
 ghost use Rattle.hsm_rows.specs.Table.{IsHostRow, shape_of};
-ghost use Rattle.hsm_session.specs.Plans.{IsBuilt};
 ghost use Rattle.hsm_config.specs.Rules.{are_odd};
 ghost use Rattle.hsm_config.specs.declared.configuration.Config.{Config};
 ghost use Rattle.hsm_tool.specs.Files.{FilesStay, ReadsFile};
@@ -18,7 +17,7 @@ use hsm_auth::Ledger;
 use hsm_config::{Config, ConfigFault};
 use hsm_io::{Bench, Sink, write_all};
 use hsm_rows::{Module, Row, explain};
-use hsm_session::{ScriptEnd, ScriptFault, script_run, unbuilt};
+use hsm_session::{ScriptEnd, ScriptFault, script_run};
 use hsm_text::Reply;
 use itoa::Buffer;
 use std::alloc::Global;
@@ -127,12 +126,9 @@ fn run_module(config: &Config) -> Module
     requires odd { IsTrue (are_odd config.now.pairs) }
     requires some_host { 1 ≤ length config.now.host_ports.items }
     requires most_hosts { length config.now.host_ports.items ≤ 64 }
-    ensures module { result ≡ run_module config.now }
-    ensures built { IsBuilt result }
+    ensures { result ≡ run_module config.now }
 {
-    let mut module = config.module([0; 32]);
-    module.disabled = unbuilt();
-    module
+    config.module([0; 32])
 }
 
 // Answers the script of a file.
@@ -143,8 +139,7 @@ fn run_file<B: Bench, S: Sink>(
     bench: &mut B,
     out: &mut S,
 ) -> Ended
-    requires none_out { (B.files bench.old).is_out ≡ false }
-    requires built { IsBuilt «module».now }
+    requires { (B.files bench.old).is_out ≡ false }
     ensures after { IsAfterConfig result.outcome }
     ensures script { (bytes : List ℕ) → (B.files bench.old).bytes_of file.now ≡ Some bytes →
         AnswersScript «module».now bytes (S.stands_for out.old) (S.stands_for out.new) result.status result.outcome }
