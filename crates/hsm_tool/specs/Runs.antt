@@ -42,7 +42,7 @@ IsRefusal status OutFault = ⊥
 IsRefusal status (Usage place) = ⊥
 IsRefusal status (ScriptRefused line) = ⊥
 
--- the same by the bytes of its file; that it is opened or read in vain and want of memory have their causes elsewhere
+-- the same by the bytes of its file; that it could not be opened or read, and want of memory, have their causes elsewhere
 abbrev pub RefusesConfig : List ℕ → Outcome → Type 0
 RefusesConfig bytes (ConfigRefused why) = (length bytes ≤ file_limit) × (config_in bytes ≡ Err why)
 RefusesConfig bytes FileLong = file_limit < length bytes
@@ -115,8 +115,8 @@ WithoutFile (script config file) P = Unit {0}
 WithoutFile (check config) P = Unit {0}
 WithoutFile (explain row) P = P
 
--- The outcome by the bytes of the configuration's file, of the name and the bad name. Whatever comes after the configuration comes only where they are one; a file
--- that is too long, opened or read in vain may be the script's.
+-- The outcome by the name and the bytes of the configuration's file, and the bad name. Whatever comes after the configuration comes only where they are one; a file
+-- that is too long, or that could not be opened or read, may be the script's.
 abbrev pub AnswersConfig : List ℕ → List ℕ → List ℕ → Outcome → Type 0
 AnswersConfig name bytes bad Served = IsConfig bytes
 AnswersConfig name bytes bad OutFault = IsConfig bytes
