@@ -1,6 +1,6 @@
 // Scripts of host lanes and what they print, under the LMK sets of the test laboratory.
 use crate::laboratory::{Set, end_of, runs, runs_on};
-use hsm_session::ScriptFault;
+use hsm_session::{Line, ScriptFault, read_script};
 use itoa::Buffer;
 use std::alloc::AllocError;
 use std::test::Fail;
@@ -154,6 +154,30 @@ fn ends_of_streams(rt: HostRuntime) -> Result<(), Fail> {
         b"L1 000E3030303142563030443544343446\nL1 000E3030303142563030443544343446\nL1 short 0\nEND 2\n",
         end_of(2, 0, 1),
     )
+}
+
+// What each kind of line says.
+#[test]
+fn lines_that_read(rt: HostRuntime) -> Result<(), Fail> {
+    let alloc = rt.alloc();
+    let mut script = Vec::from_slice(alloc, ASKED.as_bytes())?;
+    script.extend_from_slice(b"T 5\n\nC VA")?;
+    let lines = read_script(alloc, 2, &script).ok().ok_or("script")?;
+    match lines.as_slice() {
+        [
+            Line::Piece { lane, bytes },
+            Line::Moment(moment),
+            Line::Skip,
+            Line::Console(text),
+        ] => {
+            assert_eq!(&rt; *lane, 1);
+            assert_eq!(&rt; bytes.len(), 27);
+            assert_eq!(&rt; *moment, 5);
+            assert_eq!(&rt; text.as_slice(), b"VA".as_slice());
+        }
+        _ => return Err("lines".into()),
+    }
+    Ok(())
 }
 
 #[test]

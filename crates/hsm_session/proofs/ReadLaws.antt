@@ -104,6 +104,16 @@ piece_within hosts text said is = at (position (λ c. c == 32) text) is
     at None is = absurd (cc)
     at (Some place) is = with_lane place (lane_number hosts (take place text)) refl is
 
+-- what a line says that is no console text, that sets no moment, and that is not blank
+abbrev after_console : ℕ → List ℕ → Option Said
+after_console hosts line = if bytes_eq (take 1 line) (codes "L") then piece_of hosts (drop 1 line) else None
+
+abbrev after_moment : ℕ → List ℕ → Option Said
+after_moment hosts line = if bytes_eq (take 2 line) (codes "C ") then console_of (drop 2 line) else after_console hosts line
+
+abbrev after_blank : ℕ → List ℕ → Option Said
+after_blank hosts line = if bytes_eq (take 2 line) (codes "T ") then moment_of (drop 2 line) else after_moment hosts line
+
 line_within : (hosts : ℕ) (line : List ℕ) (said : Said) → line_of hosts line ≡ Some said → Within hosts (length line) said
 unfolding line_of
 line_within hosts line said is = first (is_blank line) is
@@ -115,18 +125,15 @@ line_within hosts line said is = first (is_blank line) is
     fourth true is = shorter 1 (piece_within hosts (drop 1 line) said is)
     fourth false is = absurd (cc)
 
-    third : (test : Bool) → (if test then console_of (drop 2 line) else if bytes_eq (take 1 line) (codes "L") then piece_of hosts (drop 1 line) else None) ≡ Some said
-        → Within hosts (length line) said
+    third : (test : Bool) → (if test then console_of (drop 2 line) else after_console hosts line) ≡ Some said → Within hosts (length line) said
     third true is = shorter 2 (console_within hosts (drop 2 line) said is)
     third false is = fourth (bytes_eq (take 1 line) (codes "L")) is
 
-    second : (test : Bool) → (if test then moment_of (drop 2 line) else if bytes_eq (take 2 line) (codes "C ") then console_of (drop 2 line) else if bytes_eq (take 1 line) (codes "L") then piece_of hosts (drop 1 line) else None) ≡ Some said
-        → Within hosts (length line) said
+    second : (test : Bool) → (if test then moment_of (drop 2 line) else after_moment hosts line) ≡ Some said → Within hosts (length line) said
     second true is = shorter 2 (moment_within hosts (drop 2 line) said is)
     second false is = third (bytes_eq (take 2 line) (codes "C ")) is
 
-    first : (test : Bool) → (if test then Some Nothing else if bytes_eq (take 2 line) (codes "T ") then moment_of (drop 2 line) else if bytes_eq (take 2 line) (codes "C ") then console_of (drop 2 line) else if bytes_eq (take 1 line) (codes "L") then piece_of hosts (drop 1 line) else None) ≡ Some said
-        → Within hosts (length line) said
+    first : (test : Bool) → (if test then Some Nothing else after_blank hosts line) ≡ Some said → Within hosts (length line) said
     first true is = let same : Nothing ≡ said = cc in subst (Within hosts (length line)) same (tt, omega arith)
     first false is = second (bytes_eq (take 2 line) (codes "T ")) is
 

@@ -64,7 +64,8 @@ abbrev pub BooksAll : Module → ℕ → ℕ → List (List ℕ) → Ledger → 
 BooksAll m lane moment messages old new before after =
     (h : List Entry) → StandsFor old h → Books h (entries_of m moment h messages) (answer_lines m lane moment h messages) new before after
 
--- Whatever history the ledger stood for, of these messages of a host lane some were booked after it, from the front, and a part from the front of their answers was printed.
+-- Whatever history the ledger stood for, of these messages of a host lane some were booked after it, from the front,
+-- and a part from the front of their answers was printed.
 abbrev pub BooksSome : Module → ℕ → ℕ → List (List ℕ) → Ledger → Ledger → (List ℕ → Type 0) → (List ℕ → Type 0) → Type 0
 BooksSome m lane moment messages old new before after =
     (h : List Entry) → StandsFor old h → BooksFront h (entries_of m moment h messages) (answer_lines m lane moment h messages) new before after

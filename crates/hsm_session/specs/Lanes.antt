@@ -64,7 +64,8 @@ pub record FeedsPiece (m : Module) (moment : ℕ) (old new : Lane) (piece : List
       × ((h : List Entry) → StandsFor was h
       → Books h (entries_of m moment h more) (piece_text m old.number moment h (lane_end old) more (lane_end new)) is before after)
 
--- Answering the messages held, until a write failed: some of their messages were booked at the moment, from the front, and a part from the front of their answers was printed.
+-- Answering the messages held, until a write failed: some of them were booked at the moment, from the front, and a part from
+-- the front of their answers was printed.
 pub record StopsDraining (m : Module) (lane moment : ℕ) (old : Held) (was is : Ledger) (before after : List ℕ → Type 0) : Type 0 where
   pub messages : List (List ℕ)
   pub left : List ℕ

@@ -60,14 +60,16 @@ after_answers lane Whole = []
 after_answers lane Part = []
 after_answers lane (Short n) = short_line lane n
 
--- What is printed for a piece, by the lane and the moment, the history before it, how the lane's stream ended before it, the messages that it made whole, and how the stream ends with it.
+-- What is printed for a piece, by the lane and the moment, the history before it, how the lane's stream ended before it,
+-- the messages that it made whole, and how the stream ends with it.
 abbrev pub piece_text : Module → ℕ → ℕ → List Entry → StreamEnd → List (List ℕ) → StreamEnd → List ℕ
 piece_text m lane moment h Whole messages after = answer_lines m lane moment h messages ++ after_answers lane after
 piece_text m lane moment h Part messages after = answer_lines m lane moment h messages ++ after_answers lane after
 piece_text m lane moment h (Short n) messages after = closed_line lane
 
 -- The entries that a line books after the history h and the lines before it, and what is printed for it.
--- A piece answers the messages of all bytes that its lane got up to it that were not there before it, each at its own entry, in their order. A console text is one message.
+-- A piece answers the messages of all bytes that its lane got up to it that were not there before it, each at its own entry,
+-- in their order. A console text is one message.
 abbrev pub Tells : Module → List Entry → List Said → Said → List Entry → List ℕ → Type 0
 Tells m h earlier Nothing more text = (more ≡ []) × (text ≡ [])
 Tells m h earlier (Moment moment) more text = (more ≡ []) × (text ≡ [])
@@ -138,7 +140,8 @@ pub record Runs (m : Module) (h : List Entry) (lines : List Said) (over : Script
   pub legal : IsLegal h → IsLegal last
   pub printed : Appends before after text
 
--- What a run that a failed write ended came to after the history h: of the history and the output that the run would have, the entries up to some place were booked, and a part from the front was written.
+-- What a run that a failed write ended came to after the history h: of the history that the run would have the entries up to
+-- some place were booked, and of its output a part from the front was written.
 pub record Stops (m : Module) (h : List Entry) (lines : List Said) (ledger : Ledger) (before after : List ℕ → Type 0) : Type 0 where
   pub last : List Entry
   pub text : List ℕ
