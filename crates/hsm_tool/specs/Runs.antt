@@ -115,8 +115,8 @@ WithoutFile (script config file) P = Unit {0}
 WithoutFile (check config) P = Unit {0}
 WithoutFile (explain row) P = P
 
--- The outcome by the name and the bytes of the configuration's file, and the bad name. Whatever comes after the configuration comes only where they are one; a file
--- that is too long, or that could not be opened or read, may be the script's.
+-- The outcome by the name and the bytes of the configuration's file, and the bad name. Whatever comes after the configuration
+-- comes only where they are one; a file that is too long, or that could not be opened or read, may be the script's.
 abbrev pub AnswersConfig : List ℕ → List ℕ → List ℕ → Outcome → Type 0
 AnswersConfig name bytes bad Served = IsConfig bytes
 AnswersConfig name bytes bad OutFault = IsConfig bytes
@@ -131,7 +131,9 @@ AnswersConfig name bytes bad Memory = Unit {0}
 abbrev pub status_of : ScriptEnd → ℕ
 status_of over = if over.cut + over.short == 0 then 0 else 6
 
--- The outcome, the status and what was written, by the module of the configuration and the bytes of the script's file, over one legal history from the opening ledger. A fault and want of memory have their causes elsewhere.
+-- The outcome, the status and what was written, by the module of the configuration and the bytes of the script's file, over one
+-- legal history from the opening ledger; where a write failed, a part from the front of what the run prints. A fault and want of
+-- memory have their causes elsewhere.
 abbrev pub AnswersScript : Module → List ℕ → (List ℕ → Type 0) → (List ℕ → Type 0) → ℕ → Outcome → Type 0
 AnswersScript m bytes before after status Served =
     (length bytes ≤ file_limit)

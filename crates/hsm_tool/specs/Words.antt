@@ -67,7 +67,8 @@ word_at words i = slice_index_or words i []
 
 -- the command of the words, or the place of the word that none allows
 abbrev pub ReadsWords : List (List ℕ) → Result Command WordsFault → Type 0
-ReadsWords words (Ok (Script config file)) = (config < length words) × (file < length words) × (asked words ≡ script (word_at words config) (word_at words file))
+ReadsWords words (Ok (Script config file)) =
+    (config < length words) × (file < length words) × (asked words ≡ script (word_at words config) (word_at words file))
 ReadsWords words (Ok (Check config)) = (config < length words) × (asked words ≡ check (word_at words config))
 ReadsWords words (Ok (Explain row)) = IsHostRow (shape_of row.now) × (asked words ≡ explain (shape_of row.now))
 ReadsWords words (Err (Usage place)) = asked words ≡ usage place

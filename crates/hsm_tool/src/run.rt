@@ -9,7 +9,8 @@ ghost use Rattle.hsm_config.specs.declared.configuration.Config.{Config};
 ghost use Rattle.hsm_tool.specs.Files.{FilesStay, ReadsFile};
 ghost use Rattle.hsm_tool.specs.Settings.{Says, run_module};
 ghost use Rattle.hsm_tool.specs.Words.{asked, names, word_at};
-ghost use Rattle.hsm_tool.specs.Runs.{AnswersCheck, AnswersConfig, AnswersRow, AnswersScript, AnswersWords, FileCause, HasStatus, IsAfterConfig, IsPrinted, IsRefusal, OfCheck, OfConfig, OfRow, OfScript, ReadsConfig, WithoutFile, WritesNothing, status_of};
+ghost use Rattle.hsm_tool.specs.Runs.{AnswersCheck, AnswersConfig, AnswersRow, AnswersScript, AnswersWords, FileCause, HasStatus};
+ghost use Rattle.hsm_tool.specs.Runs.{IsAfterConfig, IsPrinted, IsRefusal, OfCheck, OfConfig, OfRow, OfScript, ReadsConfig, WithoutFile, WritesNothing, status_of};
 
 use crate::command::{Command, WordsFault, read_words};
 use crate::reading::{ReadingFault, read_all};
@@ -77,7 +78,8 @@ fn word_at(words: &[String], place: usize) -> &str
 fn read_file<B: Bench>(alloc: Global, name: &str, bench: &mut B) -> Result<Vec<u8>, ReadingFault>
     requires { (B.files bench.old).is_out ≡ false }
     ensures told { (bytes : List ℕ) → (B.files bench.old).bytes_of name.now ≡ Some bytes → ReadsFile bytes result }
-    ensures cause { IsErrOf result ReadingFault.Failed → (Rose (B.files bench.old).faults (B.files bench.new).faults) × ((B.files bench.new).bad_name ≡ kept_name name.now) }
+    ensures cause { IsErrOf result ReadingFault.Failed →
+        (Rose (B.files bench.old).faults (B.files bench.new).faults) × ((B.files bench.new).bad_name ≡ kept_name name.now) }
     ensures later { (B.files bench.old).faults ≤ (B.files bench.new).faults }
     ensures files { FilesStay (B.files bench.old).bytes_of (B.files bench.new).bytes_of }
     ensures given_back { (B.files bench.new).is_out ≡ false }
@@ -95,7 +97,8 @@ fn read_config<B: Bench>(alloc: Global, name: &str, bench: &mut B) -> Result<Con
     requires { (B.files bench.old).is_out ≡ false }
     ensures told { (bytes : List ℕ) → (B.files bench.old).bytes_of name.now ≡ Some bytes → ReadsConfig bytes result }
     ensures refused { IfErr result (λ ended. IsRefusal ended.status ended.outcome) }
-    ensures cause { IfErr result (λ ended. ended.outcome ≡ Outcome.FileFault → (Rose (B.files bench.old).faults (B.files bench.new).faults) × ((B.files bench.new).bad_name ≡ kept_name name.now)) }
+    ensures cause { IfErr result (λ ended. ended.outcome ≡ Outcome.FileFault →
+        (Rose (B.files bench.old).faults (B.files bench.new).faults) × ((B.files bench.new).bad_name ≡ kept_name name.now)) }
     ensures odd { IfOk result (λ config. IsTrue (are_odd config.pairs)) }
     ensures some_host { IfOk result (λ config. 1 ≤ length config.host_ports.items) }
     ensures most_hosts { IfOk result (λ config. length config.host_ports.items ≤ 64) }
@@ -145,7 +148,8 @@ fn run_file<B: Bench, S: Sink>(
         AnswersScript «module».now bytes (S.stands_for out.old) (S.stands_for out.new) result.status result.outcome }
     ensures status { HasStatus result.status result.outcome }
     ensures nothing { WritesNothing (S.stands_for out.old) (S.stands_for out.new) result.outcome }
-    ensures file_cause { result.outcome ≡ Outcome.FileFault → (Rose (B.files bench.old).faults (B.files bench.new).faults) × ((B.files bench.new).bad_name ≡ kept_name file.now) }
+    ensures file_cause { result.outcome ≡ Outcome.FileFault →
+        (Rose (B.files bench.old).faults (B.files bench.new).faults) × ((B.files bench.new).bad_name ≡ kept_name file.now) }
     ensures out_cause { result.outcome ≡ Outcome.OutFault → Rose (S.faults out.old) (S.faults out.new) }
     ensures files { FilesStay (B.files bench.old).bytes_of (B.files bench.new).bytes_of }
     ensures given_back { (B.files bench.new).is_out ≡ false }
@@ -177,9 +181,11 @@ fn run_script<B: Bench, S: Sink>(
 ) -> Ended
     requires { (B.files bench.old).is_out ≡ false }
     ensures words { (place : ℕ) → result.outcome ≡ Outcome.Usage place → ⊥ }
-    ensures config { (bytes : List ℕ) → (B.files bench.old).bytes_of settings.now ≡ Some bytes → AnswersConfig settings.now bytes (B.files bench.new).bad_name result.outcome }
-    ensures script { (said bytes : List ℕ) (config : Config) → (B.files bench.old).bytes_of settings.now ≡ Some said → (B.files bench.old).bytes_of file.now ≡ Some bytes
-        → Says said config → AnswersScript (run_module config) bytes (S.stands_for out.old) (S.stands_for out.new) result.status result.outcome }
+    ensures config { (bytes : List ℕ) → (B.files bench.old).bytes_of settings.now ≡ Some bytes →
+        AnswersConfig settings.now bytes (B.files bench.new).bad_name result.outcome }
+    ensures script { (said bytes : List ℕ) (config : Config) →
+        (B.files bench.old).bytes_of settings.now ≡ Some said → (B.files bench.old).bytes_of file.now ≡ Some bytes → Says said config →
+        AnswersScript (run_module config) bytes (S.stands_for out.old) (S.stands_for out.new) result.status result.outcome }
     ensures status { HasStatus result.status result.outcome }
     ensures nothing { WritesNothing (S.stands_for out.old) (S.stands_for out.new) result.outcome }
     ensures file_cause { result.outcome ≡ Outcome.FileFault → (Rose (B.files bench.old).faults (B.files bench.new).faults)
@@ -217,12 +223,14 @@ fn print_hosts<S: Sink>(config: &Config, out: &mut S) -> Ended
 fn check_config<B: Bench, S: Sink>(alloc: Global, name: &str, bench: &mut B, out: &mut S) -> Ended
     requires { (B.files bench.old).is_out ≡ false }
     ensures words { (place : ℕ) → result.outcome ≡ Outcome.Usage place → ⊥ }
-    ensures config { (bytes : List ℕ) → (B.files bench.old).bytes_of name.now ≡ Some bytes → AnswersConfig name.now bytes (B.files bench.new).bad_name result.outcome }
+    ensures config { (bytes : List ℕ) → (B.files bench.old).bytes_of name.now ≡ Some bytes →
+        AnswersConfig name.now bytes (B.files bench.new).bad_name result.outcome }
     ensures check { (bytes : List ℕ) (config : Config) → (B.files bench.old).bytes_of name.now ≡ Some bytes → Says bytes config
         → AnswersCheck config (S.stands_for out.old) (S.stands_for out.new) result.status result.outcome }
     ensures status { HasStatus result.status result.outcome }
     ensures nothing { WritesNothing (S.stands_for out.old) (S.stands_for out.new) result.outcome }
-    ensures file_cause { result.outcome ≡ Outcome.FileFault → (Rose (B.files bench.old).faults (B.files bench.new).faults) × ((B.files bench.new).bad_name ≡ kept_name name.now) }
+    ensures file_cause { result.outcome ≡ Outcome.FileFault →
+        (Rose (B.files bench.old).faults (B.files bench.new).faults) × ((B.files bench.new).bad_name ≡ kept_name name.now) }
     ensures out_cause { result.outcome ≡ Outcome.OutFault → Rose (S.faults out.old) (S.faults out.new) }
     ensures files { FilesStay (B.files bench.old).bytes_of (B.files bench.new).bytes_of }
     ensures given_back { (B.files bench.new).is_out ≡ false }
@@ -250,8 +258,8 @@ fn print_row<S: Sink>(row: &Row, out: &mut S) -> Ended
 
 /// Does what the words ask for, with the files of the bench, and writes the command's output to `out`.
 ///
-/// The causes are looked at in this order: the words, the configuration's file, what it says, the script's file, the lines of the script, the output. Want of memory may
-/// come before any but the words, and never in printing a row.
+/// The causes are looked at in this order: the words, the configuration's file, what it says, the script's file, the lines of the
+/// script, the output. Want of memory may come before any but the words, and never in printing a row.
 pub fn hsm_run<B: Bench, S: Sink>(
     alloc: Global,
     words: &[String],

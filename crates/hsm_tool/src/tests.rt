@@ -112,7 +112,7 @@ fn served_and_refused(rt: HostRuntime) -> Result<(), Fail> {
         (SCRIPT, 0, Outcome::Served, ANSWER),
         (b"L1 0019", 6, Outcome::Served, b"L1 cut\nEND 0\n"),
         (b"", 0, Outcome::Served, b"END 0\n"),
-        (b"L1 00\n\nL1 19\n", 4, Outcome::ScriptRefused(2), b""),
+        (b"L1 00\nX\nL1 19\n", 4, Outcome::ScriptRefused(2), b""),
     ];
     for (script, status, outcome, output) in cases {
         let config = settings(alloc)?;

@@ -8,7 +8,8 @@ returns-in-Ok-Script-clause-script g c =
     let bytes_of = (g.B.Bench.files c.args.bench.now).bytes_of in
     of_script (names c.args.words.now) c.in-Ok-Script.field-0 c.in-Ok-Script.config c.in-Ok-Script.file _ c.in-Ok-Script.field-0-is c.in-Ok-Script.ensures
     (λ settings bytes config told_config told_file says.
-    c.run_script.ensures.script settings bytes config (ap bytes_of c.word_at.ensures ∙ told_config) (ap bytes_of c.word_at-in-Ok-Script.ensures ∙ told_file) says)
+    c.run_script.ensures.script settings bytes config (ap bytes_of c.word_at.ensures ∙ told_config)
+    (ap bytes_of c.word_at-in-Ok-Script.ensures ∙ told_file) says)
 
 pub returns-in-Ok-Check-clause-check : goal.returns-in-Ok-Check-clause-check
 returns-in-Ok-Check-clause-check g c =
