@@ -1,5 +1,5 @@
 -- The answers of the top call and their causes.
-use Rattle.std.specs.Prelude.{◌≡◌, ℕ, ◌+◌, ◌<◌, ◌≤◌, ◌⊎◌, ◌==◌, List, [], length, if◌then◌else◌, Result, Ok, Err}
+use Rattle.std.specs.Prelude.{◌≡◌, ℕ, ◌+◌, ◌<◌, ◌≤◌, ◌⊎◌, ◌==◌, List, [], length, slice_get, Some, if◌then◌else◌, Result, Ok, Err}
 use Rattle.hsm_io.specs.Outside.{Rose}
 use Rattle.hsm_io.specs.Files.{kept_name}
 use Rattle.hsm_io.specs.Texts.{Appends, AppendsFront, Stays}
@@ -10,6 +10,9 @@ use Rattle.hsm_auth.specs.History.{IsLegal}
 use Rattle.hsm_rows.specs.declared.settings.Module.{Module}
 use Rattle.hsm_session.specs.declared.script.ScriptEnd.{ScriptEnd}
 use Rattle.hsm_session.specs.Scripts.{Said, script_of}
+use Rattle.hsm_answers.specs.Clear.{ShowsClear}
+use Rattle.hsm_answers.specs.Messages.{Side}
+use Rattle.hsm_session.specs.Clear.{IsEntryOf, IsGranted}
 use Rattle.hsm_session.specs.Runs.{Told}
 use Rattle.hsm_tool.specs.Files.{file_limit}
 use Rattle.hsm_tool.specs.Words.{Asked, usage, script, check, explain}
@@ -131,6 +134,14 @@ AnswersConfig name bytes bad Memory = Unit {0}
 abbrev pub status_of : ScriptEnd → ℕ
 status_of over = if over.cut + over.short == 0 then 0 else 6
 
+-- An answer of the history that shows a clear key or PIN stands at an entry at which a live grant covers what its row needs, and a console's `A` with both
+-- officers' words gave that grant before.
+abbrev pub ShowsGranted : Module → List Entry → Type 0
+ShowsGranted m history =
+    (i : ℕ) (e : Entry) (side : Side) (moment : ℕ) (message : List ℕ)
+    → slice_get history i ≡ Some e → IsEntryOf m history i side moment message → (s : ShowsClear m side message e.granted)
+    → IsGranted m 0 history i moment s.row s.read
+
 -- The outcome, the status and what was written, by the module of the configuration and the bytes of the script's file, over one
 -- legal history from the opening ledger; where a write failed, a part from the front of what the run prints. A fault and want of
 -- memory have their causes elsewhere.
@@ -138,11 +149,12 @@ abbrev pub AnswersScript : Module → List ℕ → (List ℕ → Type 0) → (Li
 AnswersScript m bytes before after status Served =
     (length bytes ≤ file_limit)
     × ((lines : List Said) × (last : List Entry) × (text : List ℕ) × (over : ScriptEnd)
-    × (script_of m.hosts bytes ≡ Ok lines) × Told m [] lines last text over × IsLegal last × Appends before after text × (status ≡ status_of over))
+    × (script_of m.hosts bytes ≡ Ok lines) × Told m [] lines last text over × IsLegal last × ShowsGranted m last × Appends before after text
+    × (status ≡ status_of over))
 AnswersScript m bytes before after status OutFault =
     (length bytes ≤ file_limit)
     × ((lines : List Said) × (last : List Entry) × (text : List ℕ) × (over : ScriptEnd)
-    × (script_of m.hosts bytes ≡ Ok lines) × Told m [] lines last text over × AppendsFront before after text)
+    × (script_of m.hosts bytes ≡ Ok lines) × Told m [] lines last text over × ShowsGranted m last × AppendsFront before after text)
 AnswersScript m bytes before after status FileLong = file_limit < length bytes
 AnswersScript m bytes before after status (ScriptRefused line) = (length bytes ≤ file_limit) × (script_of m.hosts bytes ≡ Err line)
 AnswersScript m bytes before after status (Usage place) = ⊥

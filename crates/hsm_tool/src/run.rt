@@ -18,7 +18,7 @@ use hsm_auth::Ledger;
 use hsm_config::{Config, ConfigFault};
 use hsm_io::{Bench, Sink, write_all};
 use hsm_rows::{Module, Row, explain};
-use hsm_session::{ScriptEnd, ScriptFault, script_run};
+use hsm_session::{ScriptEnd, ScriptFault, clear_in_runs, script_run};
 use hsm_text::Reply;
 use itoa::Buffer;
 use std::alloc::Global;
@@ -154,6 +154,7 @@ fn run_file<B: Bench, S: Sink>(
     ensures files { FilesStay (B.files bench.old).bytes_of (B.files bench.new).bytes_of }
     ensures given_back { (B.files bench.new).is_out ≡ false }
 {
+    clear_in_runs();
     let bytes = match read_file(alloc, file, bench) {
         Ok(bytes) => bytes,
         Err(ReadingFault::Memory) => return end_with(5, Outcome::Memory),
