@@ -227,6 +227,7 @@ fn explains(rt: HostRuntime) -> Result<(), Fail> {
 #[test]
 fn faults_of_the_outside(rt: HostRuntime) -> Result<(), Fail> {
     let alloc = rt.alloc();
+    let script: &[&str] = &["script", "c", "f"];
     // The words, the reads of the script, openings and writes that fail, the outcome, and the bad name.
     let cases: [(&[&str], &[u32], &[u32], &[u32], Outcome, &[u8]); 9] = [
         (
@@ -245,48 +246,13 @@ fn faults_of_the_outside(rt: HostRuntime) -> Result<(), Fail> {
             Outcome::FileFault,
             b"g",
         ),
-        (
-            &["script", "c", "f"],
-            &[0],
-            &[],
-            &[],
-            Outcome::FileFault,
-            b"f",
-        ),
-        (
-            &["script", "c", "f"],
-            &[1],
-            &[],
-            &[],
-            Outcome::FileFault,
-            b"f",
-        ),
-        (
-            &["script", "c", "f"],
-            &[],
-            &[0],
-            &[],
-            Outcome::FileFault,
-            b"c",
-        ),
-        (
-            &["script", "c", "f"],
-            &[],
-            &[1],
-            &[],
-            Outcome::FileFault,
-            b"f",
-        ),
+        (script, &[0], &[], &[], Outcome::FileFault, b"f"),
+        (script, &[1], &[], &[], Outcome::FileFault, b"f"),
+        (script, &[], &[0], &[], Outcome::FileFault, b"c"),
+        (script, &[], &[1], &[], Outcome::FileFault, b"f"),
         (&["check", "b"], &[], &[], &[], Outcome::FileFault, b"b"),
         (&["check", "c"], &[], &[], &[0], Outcome::OutFault, b""),
-        (
-            &["script", "c", "f"],
-            &[],
-            &[],
-            &[0],
-            Outcome::OutFault,
-            b"",
-        ),
+        (script, &[], &[], &[0], Outcome::OutFault, b""),
     ];
     for (texts, bad_reads, bad_files, bad_writes, outcome, bad_name) in cases {
         let config = settings(alloc)?;
