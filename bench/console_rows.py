@@ -41,6 +41,9 @@ def grants():
     s.console("A component.402 720" + WORDS, "OK")
     s.console("A pin.clear 10" + WORDS, "OK")
     s.console("VA", "OK 2 component.402=43360 pin.clear=760")
+    # A grant that names no place covers the host's need.
+    s.host(no_pin, "14")
+    s.console("A pin.clear 10 abc wrong", "NO WORDS")
     s.line("T 1099511627776")
     s.console("A import.00A.console 720" + WORDS, "OK")
     s.console("VA", "OK 1 import.00A.console=1099511670976")
@@ -97,6 +100,10 @@ def pins():
     assert s.host("BA123456789012" + ACCOUNT) == sealed_pin("123456789012", ACCOUNT)
     s.host("BA123FFFFFFFFF" + ACCOUNT, "24")
     s.host("BAFFFFFFFFFFFF" + ACCOUNT, "24")
+    # Another account field may open the text where it differs only in digits that lie over the PIN's.
+    opens, pin = "023456789012", sealed_pin("1234", ACCOUNT)
+    assert s.host("NG" + ACCOUNT + pin) == "1234FFFFFFFF"
+    assert s.host("NG" + opens + pin) == "1224FFFFFFFF"
     s.console("C *", "OK 2")
     s.host(ng, "17")
     s.host(ba, "17")
@@ -219,6 +226,8 @@ def lanes():
     s.line("L1 " + frame[2:] + other, *s_printed(bu, "NC"))
     s.line("L2 " + other[10:] + "0005" + other, line(b"ND00" + b"33C517CEFDC01D400001-LAB1", 2), "L2 short 5")
     s.line("L2 " + frame, "L2 closed")
+    # Lane 1 draws after lane 2.
+    s.host("A00001U")
     s.line("L1 00")
     return s
 

@@ -477,6 +477,11 @@ class Messages:
     def refused(self, message, code, *, trailer=b""):
         self.add(message, code, trailer=trailer)
 
+    def answered(self, message, answer):
+        """A message whose whole answer is known without this model."""
+        self.add(message, answer[2:4])
+        assert self.cases[-1][1] == answer.encode(), (message, answer, self.cases[-1][1])
+
 
 def check_codes(groups, codes):
     """The groups' messages of each command must give just these codes."""

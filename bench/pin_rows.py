@@ -5,8 +5,8 @@
     bench/pin_rows.py script GROUP          the group's messages as the lines of a script
     bench/pin_rows.py output GROUP          what that script prints
 
-The groups are translations (CA, CC), pins (JA, BA, NG), offsets (DE, DA, EA) and pvvs (DG, DC, EC) under set T, e1 and
-e2 under those sets; crates/hsm_acceptance/src/pins.rt has their cases. Each group is one script, so that its draws
+The groups are known (CA, DE, DG, DC), whose answers follow from their definitions by hand, translations (CA, CC), pins
+(JA, BA, NG), offsets (DE, DA, EA) and pvvs (DG, DC, EC) under set T, e1 and e2 under those sets; crates/hsm_acceptance/src/pins.rt has their cases. Each group is one script, so that its draws
 begin at place 0. The header is 0001, the seed is 32 zero bytes and no grant lives. The answers are those of
 hsm_model.py. It needs the command openssl. Nothing of the crates is used.
 """
@@ -31,6 +31,28 @@ def block(key, code, pin, account=ACCOUNT, fill="ABCDEFABCD"):
 def raw(key, clear):
     """A block that need not hold a PIN."""
     return encipher(key, bytes.fromhex(clear)).hex().upper()
+
+
+def known():
+    """Answers that are known from elsewhere or by their definition. The fill is AA, of the words 0 and 1."""
+    g = Messages()
+    one, two = sealed("002", "Z", ONE), sealed("002", "U", TWO)
+    text = "12" + raw(ONE, "0C1226622EE882ED") + "0147" + ACCOUNT
+    g.answered("CA" + one + sealed("001", "Z", ONE) + text, "CB0012" + raw(ONE, "3C1226622EE882B8") + "47")
+    g.answered("CA" + one + sealed("001", "Z", ONE) + "11" + text[2:], "CB24")
+    start = "DE" + one + PIN + "04" + ACCOUNT
+    g.answered(start + SEVEN_DIGITS + DATA, "DF25")
+    digits = encipher(ONE, bytes.fromhex("1234567890189012")).hex()[:4]
+    natural = ["0123456701234567"[int(digit, 16)] for digit in digits]
+    made = "".join(str((int(p) - int(n)) % 10) for p, n in zip("1234", natural))
+    g.answered(start + "0123456701234567" + DATA, "DF00" + made + "FFFFFFFF")
+    g.answered("DG" + two + PIN + ACCOUNT + "1", "DH00" + selected(encipher(TWO, bytes.fromhex("2345678901211234")), 4))
+    value = selected(encipher(TWO, bytes.fromhex("2345678901214621")), 4)
+    g.answered("DG" + two + sealed_pin("4621", ACCOUNT) + ACCOUNT + "1", "DH00" + value)
+    start = "DC" + one + two + block(ONE, "01", "4621") + "01" + ACCOUNT + "1"
+    g.answered(start + value, "DD00")
+    g.answered(start + value[:3] + str((int(value[3]) + 1) % 10), "DD01")
+    return g
 
 
 def translations():
@@ -257,7 +279,8 @@ def e2():
     return g
 
 
-GROUPS = {"translations": translations, "pins": pins, "offsets": offsets, "pvvs": pvvs, "e1": e1, "e2": e2}
+GROUPS = {
+    "known": known, "translations": translations, "pins": pins, "offsets": offsets, "pvvs": pvvs, "e1": e1, "e2": e2}
 
 # The codes that each command can give; those under a grant are 00 and 24 of BA, 00 and 14 of NG.
 TRANSLATED, COMPARED = "00 10 11 15 20 23 24", "00 01 10 11 15 20 23 24"
@@ -273,11 +296,6 @@ def check_worked():
     def answers(message, answer):
         assert hsm.host(message.encode()) == answer.encode(), (message, answer, hsm.host(message.encode()))
 
-    keys = sealed("002", "Z", ONE) + sealed("001", "Z", ONE)
-    text = "12" + raw(ONE, "0C1226622EE882ED") + "0147" + ACCOUNT
-    answers("CA" + keys + text, "CB0012" + raw(ONE, "3C1226622EE882B8") + "47")
-    answers("CA" + keys + "11" + text[2:], "CB24")
-    hsm = Hsm()
     assert raw(hsm.lmks[1], "044633CBA9876FED") == sealed_pin("4621", ACCOUNT)
     assert raw(hsm.lmks[1], "041226CBA9876FED") == sealed_pin("1234", ACCOUNT)
     answers("JA" + ACCOUNT + "04", "JB00" + sealed_pin("4621", ACCOUNT))
@@ -286,19 +304,6 @@ def check_worked():
     answers("NG" + ACCOUNT + sealed_pin("4621", ACCOUNT), "NH004621FFFFFFFF")
     answers("BA123FFFFFFFFF" + ACCOUNT, "BB24")
     answers("BA1234FFFFFFFF" + ACCOUNT, "BB00" + sealed_pin("1234", ACCOUNT))
-    start = "DE" + sealed("002", "Z", ONE) + sealed_pin("1234", ACCOUNT) + "04" + ACCOUNT
-    answers(start + "012345601234560112345678901N", "DF25")
-    digits = encipher(ONE, bytes.fromhex("1234567890189012")).hex()[:4]
-    natural = ["0123456701234567"[int(digit, 16)] for digit in digits]
-    made = "".join(str((int(p) - int(n)) % 10) for p, n in zip("1234", natural))
-    answers(start + "012345670123456712345678901N", "DF00" + made + "FFFFFFFF")
-    value = hsm.host(("DG" + sealed("002", "U", TWO) + sealed_pin("1234", ACCOUNT) + ACCOUNT + "1").encode())
-    assert value == b"DH00" + selected(encipher(TWO, bytes.fromhex("2345678901211234")), 4).encode()
-    pair = sealed("002", "U", TWO)
-    value = hsm.host(("DG" + pair + sealed_pin("4621", ACCOUNT) + ACCOUNT + "1").encode())[4:].decode()
-    start = "DC" + sealed("002", "Z", ONE) + pair + block(ONE, "01", "4621") + "01" + ACCOUNT + "1"
-    answers(start + value, "DD00")
-    answers(start + value[:3] + str((int(value[3]) + 1) % 10), "DD01")
 
 
 if __name__ == "__main__":

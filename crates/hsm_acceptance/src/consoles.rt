@@ -5,7 +5,7 @@ use std::test::Fail;
 
 // A grant with an end is gone at that moment and does not come back. The set is E1.
 #[rattlefmt::skip]
-const GRANTS: [(&str, &str); 20] = [
+const GRANTS: [(&str, &str); 22] = [
     ("T 100", ""),
     ("C A pin.clear.host 1 abc hello", "C OK\n"),
     ("C VA", "C OK 1 pin.clear.host=160\n"),
@@ -22,10 +22,12 @@ const GRANTS: [(&str, &str); 20] = [
     ("C A component.402 720 abc hello", "C OK\n"),
     ("C A pin.clear 10 abc hello", "C OK\n"),
     ("C VA", "C OK 2 component.402=43360 pin.clear=760\n"),
+    ("L1 0022303030314E4731323334353637383930313238354538313335343046304142343035", "L1 0008303030314E483134\n"),
+    ("C A pin.clear 10 abc wrong", "C NO WORDS\n"),
     ("T 1099511627776", ""),
     ("C A import.00A.console 720 abc hello", "C OK\n"),
     ("C VA", "C OK 1 import.00A.console=1099511670976\n"),
-    ("", "END 14\n"),
+    ("", "END 16\n"),
 ];
 
 // Which grants cover the needs of the key commands.
@@ -60,7 +62,7 @@ const KEYS: [(&str, &str); 25] = [
 
 // PINs in the clear, under a grant and without one.
 #[rattlefmt::skip]
-const PINS: [(&str, &str); 19] = [
+const PINS: [(&str, &str); 21] = [
     ("L1 0014303030314A413132333435363738393031323034", "L1 0018303030314A42303046454236353430353737393343314333\n"),
     ("C A pin.clear.host 10 abc wrong", "C NO WORDS\n"),
     ("L1 0022303030314E4731323334353637383930313246454236353430353737393343314333", "L1 0008303030314E483137\n"),
@@ -76,10 +78,12 @@ const PINS: [(&str, &str); 19] = [
     ("L1 001E303030314241313233343536373839303132313233343536373839303132", "L1 0018303030314242303037314541363434373139453632333842\n"),
     ("L1 001E303030314241313233464646464646464646313233343536373839303132", "L1 00083030303142423234\n"),
     ("L1 001E303030314241464646464646464646464646313233343536373839303132", "L1 00083030303142423234\n"),
+    ("L1 0022303030314E4731323334353637383930313241433945333045413445453038383230", "L1 0014303030314E483030313233344646464646464646\n"),
+    ("L1 0022303030314E4730323334353637383930313241433945333045413445453038383230", "L1 0014303030314E483030313232344646464646464646\n"),
     ("C C *", "C OK 2\n"),
     ("L1 0022303030314E4731323334353637383930313246454236353430353737393343314333", "L1 0008303030314E483137\n"),
     ("L1 001E303030314241313233344646464646464646313233343536373839303132", "L1 00083030303142423137\n"),
-    ("", "END 18\n"),
+    ("", "END 20\n"),
 ];
 
 // Components drawn and joined.
@@ -230,7 +234,7 @@ const NOTES: [(&str, &str); 16] = [
 
 // Two lanes, one closed by a short frame, one cut at the end.
 #[rattlefmt::skip]
-const LANES: [(&str, &str); 11] = [
+const LANES: [(&str, &str); 12] = [
     ("# Two lanes", ""),
     ("", ""),
     ("L1 00", ""),
@@ -240,15 +244,16 @@ const LANES: [(&str, &str); 11] = [
     ("L1 19303030314255303130303433324542363946453736354143340006303030314E43", "L1 000E3030303142563030443544343446\nL1 0021303030314E44303033334335313743454644433031443430303030312D4C414231\n"),
     ("L2 314E4300050006303030314E43", "L2 0021303030314E44303033334335313743454644433031443430303030312D4C414231\nL2 short 5\n"),
     ("L2 001930303031425530313030343332454236394645373635414334", "L2 closed\n"),
+    ("L1 000B3030303141303030303155", "L1 002F3030303141313030554330453737363043373746423639393143413830463234433337303246373045393738364134\n"),
     ("L1 00", ""),
-    ("", "L1 cut\nEND 5\n"),
+    ("", "L1 cut\nEND 6\n"),
 ];
 
 #[test]
 fn activities(rt: HostRuntime) -> Result<(), Fail> {
-    prints(&rt, Set::E1, &GRANTS, end_of(14, 0, 0))?;
+    prints(&rt, Set::E1, &GRANTS, end_of(16, 0, 0))?;
     prints(&rt, Set::T, &KEYS, end_of(24, 0, 0))?;
-    prints(&rt, Set::T, &PINS, end_of(18, 0, 0))?;
+    prints(&rt, Set::T, &PINS, end_of(20, 0, 0))?;
     prints(&rt, Set::T, &COMPONENTS, end_of(35, 0, 0))?;
     Ok(())
 }
@@ -258,6 +263,6 @@ fn texts_and_lanes(rt: HostRuntime) -> Result<(), Fail> {
     prints(&rt, Set::T, &TEXTS, end_of(32, 0, 0))?;
     prints(&rt, Set::T, &FULL, end_of(39, 0, 0))?;
     prints(&rt, Set::T, &NOTES, end_of(14, 0, 0))?;
-    prints(&rt, Set::T, &LANES, end_of(5, 1, 1))?;
+    prints(&rt, Set::T, &LANES, end_of(6, 1, 1))?;
     Ok(())
 }

@@ -1,40 +1,30 @@
-// The LMK sets of the test laboratory, and runs of scripts and messages under them.
-use arrayvec::ArrayVec;
+// Configurations of the test laboratory, and runs of scripts and messages under them.
 use hsm_auth::Ledger;
+use hsm_config::Config;
 use hsm_io::MemSink;
-use hsm_lmk::LmkSet;
 use hsm_nibbles::hex_character;
-use hsm_parity::adjust;
 use hsm_rows::Module;
 use hsm_session::{ScriptEnd, ScriptFault, script_run};
-use hsm_types::Permits;
 use itoa::Buffer;
 use std::alloc::{Alloc, AllocError, Global};
 use std::process::Abort;
 use std::test::Fail;
 
+// What each configuration begins with: the digests are those of the officers' words, abc and hello.
+const HEAD: &[u8] = br#"
+version = 1
+header = 4
+officers = ["ba7816bf8f01cfea414140de5dae2223b00361a396177a9cb410ff61f20015ad",
+            "2cf24dba5fb0a30e26e83b2ac5b9e29e1b161e5c1fa7425e73043362938b9824"]
+console_port = 1500
+accept = 8
+"#;
+
 // Every half is 133457799BBCDFF1.
-const PAIR_E: [u8; 16] = [
-    0x13, 0x34, 0x57, 0x79, 0x9B, 0xBC, 0xDF, 0xF1, 0x13, 0x34, 0x57, 0x79, 0x9B, 0xBC, 0xDF, 0xF1,
-];
+const PAIR_E: &[u8] = b"\"133457799BBCDFF1133457799BBCDFF1\",";
 
 // Both halves are 0123456789ABCDEF.
-const PAIR_14: [u8; 16] = [
-    0x01, 0x23, 0x45, 0x67, 0x89, 0xAB, 0xCD, 0xEF, 0x01, 0x23, 0x45, 0x67, 0x89, 0xAB, 0xCD, 0xEF,
-];
-
-// The SHA-256 digests of the officers' words, abc and hello.
-const OFFICERS: [[u8; 32]; 2] = [ABC, HELLO];
-
-const ABC: [u8; 32] = [
-    0xBA, 0x78, 0x16, 0xBF, 0x8F, 0x01, 0xCF, 0xEA, 0x41, 0x41, 0x40, 0xDE, 0x5D, 0xAE, 0x22, 0x23,
-    0xB0, 0x03, 0x61, 0xA3, 0x96, 0x17, 0x7A, 0x9C, 0xB4, 0x10, 0xFF, 0x61, 0xF2, 0x00, 0x15, 0xAD,
-];
-
-const HELLO: [u8; 32] = [
-    0x2C, 0xF2, 0x4D, 0xBA, 0x5F, 0xB0, 0xA3, 0x0E, 0x26, 0xE8, 0x3B, 0x2A, 0xC5, 0xB9, 0xE2, 0x9E,
-    0x1B, 0x16, 0x1E, 0x5C, 0x1F, 0xA7, 0x42, 0x5E, 0x73, 0x04, 0x33, 0x62, 0x93, 0x8B, 0x98, 0x24,
-];
+const PAIR_14: &[u8] = b"\"0123456789ABCDEF0123456789ABCDEF\",";
 
 #[derive(Clone, Copy)]
 pub(crate) enum Set {
@@ -43,33 +33,38 @@ pub(crate) enum Set {
     E2,
 }
 
-fn pairs_of(set: Set) -> [[u8; 16]; 20] {
-    let mut pairs = [PAIR_E; 20];
-    match set {
-        Set::T => {
-            for k in 0u8..20 {
-                let pair = &mut pairs[usize::from(k)];
-                pair[..8].copy_from_slice(&adjust([32 + 2 * k; 8]));
-                pair[8..].copy_from_slice(&adjust([96 + 2 * k; 8]));
-            }
-        }
-        Set::E1 => {}
-        Set::E2 => pairs[7] = PAIR_14,
+// The pairs of a set that lists them; pair 14-15 is the one at place 7.
+fn push_pairs(text: &mut Vec<u8>, pair_14: &[u8]) -> Result<(), AllocError> {
+    text.extend_from_slice(b"lmk = [")?;
+    for place in 0..20 {
+        text.extend_from_slice(if place == 7 { pair_14 } else { PAIR_E })?;
     }
-    pairs
+    text.extend_from_slice(b"]\n")
+}
+
+// The configuration of a set with so many hosts.
+fn config_text(alloc: Global, set: Set, hosts: u8) -> Result<Vec<u8>, AllocError> {
+    let mut text = HEAD.to_vec(alloc)?;
+    match set {
+        Set::T => text.extend_from_slice(b"lmk = \"test\"\n")?,
+        Set::E1 => push_pairs(&mut text, PAIR_E)?,
+        Set::E2 => push_pairs(&mut text, PAIR_14)?,
+    }
+    text.extend_from_slice(b"host_ports = [")?;
+    for host in 0..hosts {
+        text.extend_from_slice(Buffer::new().format(1501 + u16::from(host)).as_bytes())?;
+        text.push(b',')?;
+    }
+    text.extend_from_slice(b"]\n")?;
+    Ok(text)
 }
 
 // The module of a set, with so many hosts and the zero seed.
-fn module_of(set: Set, hosts: u8) -> Option<Module> {
-    Some(Module {
-        lmk: LmkSet::of(&pairs_of(set)).ok()?,
-        permits: Permits::table(),
-        disabled: ArrayVec::new(),
-        header: 4,
-        hosts,
-        officers: OFFICERS,
-        seed: [0; 32],
-    })
+fn module_of(alloc: Global, set: Set, hosts: u8) -> Result<Module, Fail> {
+    match Config::read(alloc, &config_text(alloc, set, hosts)?) {
+        Ok(config) => Ok(config.module([0; 32])),
+        Err(_) => Err("configuration")?,
+    }
 }
 
 pub(crate) fn end_of(entries: u64, cut: u32, short: u32) -> Result<ScriptEnd, ScriptFault> {
@@ -90,7 +85,7 @@ pub(crate) fn runs_on(
     ended: Result<ScriptEnd, ScriptFault>,
 ) -> Result<(), Fail> {
     let alloc = rt.alloc();
-    let module = module_of(set, hosts).ok_or("module")?;
+    let module = module_of(alloc, set, hosts)?;
     let mut ledger = Ledger::new(alloc)?;
     let mut out = MemSink::new(alloc, output.len() + 1_000, Vec::new(alloc))?;
     let run = script_run(alloc, &module, &mut ledger, script, &mut out);
