@@ -1,5 +1,5 @@
 -- The texts, faults and values of M6 and M8.
-use Rattle.std.proofs.Common.{◌≡◌, ℕ, Bool, true, false, not, ◌||◌, ◌&&◌, ◌==◌, List, [], ◌∷◌, length, take, refl, sym, ap, ◌∙◌, subst, arith}
+use Rattle.std.proofs.Common.{◌≡◌, ℕ, Bool, true, false, not, ◌||◌, ◌&&◌, ◌==◌, List, [], ◌∷◌, length, take, map, refl, sym, ap, ◌∙◌, subst, arith}
 use Rattle.std.specs.Prelude.{Option, Some, None, IfSome, is_none, Result, Ok, Err, is_err, if◌then◌else◌, codes}
 use Rattle.std.specs.Result.{result_ok}
 use Rattle.hsm_mac.specs.declared.Uneven.{Uneven}
@@ -8,6 +8,8 @@ use Rattle.std.proofs.lemmas.Slice.Eq.{bytes_eq-Decides}
 use Rattle.std.proofs.lemmas.Bool.Decides.{nat_tests}
 use Rattle.hsm_mac.specs.declared.Alg.{Alg}
 use Rattle.hsm_mac.specs.declared.Pad.{Pad}
+use Rattle.hsm_nibbles.specs.Nibbles.{block_of}
+use Rattle.hsm_nibbles.specs.Characters.{digit_value}
 use Rattle.hsm_mac.specs.Macs.{mac, chained, blocks_of, padded, fills_blocks, is_bare, is_length}
 use Rattle.hsm_rows.specs.declared.settings.Module.{Module}
 use Rattle.hsm_rows.specs.Table.{row_M6, row_M8}
@@ -16,13 +18,13 @@ use Rattle.hsm_rows.specs.Rules.{RowRules, mac_fields, mac_of, rules_M8}
 use Rattle.hsm_rows.specs.Standing.{AreTexts}
 use Rattle.hsm_answers.specs.Keys.{field_text, lmk_key, first_code}
 use Rattle.hsm_answers.specs.Pins.{block_text}
-use Rattle.hsm_answers.specs.Macs.{is_only, mac_fault, mac_data, mac_algorithm, mac_padding, mac_text, chain_text}
+use Rattle.hsm_answers.specs.Macs.{is_only, mac_fault, mac_data, mac_algorithm, mac_padding, mac_start, mac_text, chain_text}
 use Rattle.hsm_answers.specs.Values.{row_value, chain_value}
 use Rattle.hsm_answers.specs.Given.{compared_code}
 use Rattle.hsm_answers.specs.Checks.{check_after, checks_fault, data_fault, compared_fault}
 use Rattle.hsm_datacmd.specs.declared.mac.Part.TheVariants.{Only, Last, Open}
 use Rattle.hsm_datacmd.specs.declared.mac.MacAsked.{MacAsked}
-use Rattle.hsm_datacmd.specs.Macs.{AreMacTexts, mac_asked, part_value, is_uneven, ends_by, start_by, data_value}
+use Rattle.hsm_datacmd.specs.Macs.{AreMacTexts, mac_asked, part_value, is_uneven, ends_by, data_value}
 
 -- ---- texts
 
@@ -130,7 +132,7 @@ pub mac_faults : (r : ReadText) → (if is_uneven (mac_asked r).pad (mac_data r 
 unfolding fault_by mac_fault
 mac_faults r =
     fault_is (bytes_eq (field_text r 0) (codes "0")) (bytes_eq (field_text r 0) (codes "3")) (mac_padding r mac_fields) (mac_data r mac_fields)
-    (start_by (field_text r 7))
+    (mac_start r mac_fields)
 
 -- the same where the value is absent exactly for uneven data
 pub mac_refused : (r : ReadText) (asked : MacAsked) (bytes : List ℕ) (value : Option ℕ) → asked ≡ mac_asked r → bytes ≡ mac_data r mac_fields
@@ -166,8 +168,8 @@ module _ (m : Module) (rules : RowRules) (r : ReadText) where
       ≡ row_value m rules r (mac_of mac_fields)
   unfolding row_value mac_text
   mac_written texts ends =
-      let start : ℕ = start_by (field_text r 7) in
-      let zero : is_only r mac_fields ≡ true → start ≡ 0 = λ h. ap start_by (texts.whole h) in
+      let start : ℕ = mac_start r mac_fields in
+      let zero : is_only r mac_fields ≡ true → start ≡ 0 = λ h. ap (λ (t : List ℕ). if is_end t then 0 else block_of (map digit_value t)) (texts.whole h) in
       ap (λ (v : ℕ). sized r (block_text v))
       (ends_value (bytes_eq (field_text r 0) (codes "0")) (bytes_eq (field_text r 0) (codes "3")) (lmk_key m rules r 6)
       (mac_algorithm r mac_fields) (mac_padding r mac_fields) (mac_data r mac_fields) start ends zero)
@@ -179,7 +181,7 @@ module _ (m : Module) (rules : RowRules) (r : ReadText) where
   chain_written goes =
       ap block_text
       (open_value (bytes_eq (field_text r 0) (codes "0")) (bytes_eq (field_text r 0) (codes "3")) (lmk_key m rules r 6)
-      (mac_algorithm r mac_fields) (mac_padding r mac_fields) (mac_data r mac_fields) (start_by (field_text r 7)) goes)
+      (mac_algorithm r mac_fields) (mac_padding r mac_fields) (mac_data r mac_fields) (mac_start r mac_fields) goes)
       ∙ sym (ap (λ (b : Bool). if b then [] else chain_text m rules r mac_fields) goes)
 
   -- no MAC is written before its message ends

@@ -1,13 +1,10 @@
 -- The MACs and chaining values of M6 and M8.
-use Rattle.std.specs.Prelude.{◌≡◌, ℕ, ◌^◌, ◌<◌, Bool, true, false, ◌||◌, if◌then◌else◌, List, [], map, Option, Some, None, codes}
+use Rattle.std.specs.Prelude.{◌≡◌, ℕ, ◌^◌, ◌<◌, Bool, true, false, ◌||◌, if◌then◌else◌, List, [], Option, Some, None, codes}
 use Rattle.std.specs.Str.{bytes_eq}
 use Rattle.hsm_types.specs.declared.types.KeyType.{KeyType}
-use Rattle.hsm_nibbles.specs.Nibbles.{block_of}
-use Rattle.hsm_nibbles.specs.Characters.{digit_value}
 use Rattle.hsm_mac.specs.declared.Alg.{Alg}
 use Rattle.hsm_mac.specs.declared.Alg.TheVariants.{One, Three}
 use Rattle.hsm_mac.specs.declared.Pad.{Pad}
-use Rattle.hsm_mac.specs.declared.Pad.TheVariants.{Bare, Zeros, Bit, Length}
 use Rattle.hsm_mac.specs.Macs.{blocks_of, padded, chained, mac, is_length}
 use Rattle.hsm_mac.specs.States.{refuses_part, refuses_last, refuses_whole}
 use Rattle.hsm_rows.specs.declared.settings.Module.{Module}
@@ -17,7 +14,7 @@ use Rattle.hsm_rows.specs.Reading.{ReadText, is_end}
 use Rattle.hsm_rows.specs.Rules.{RowRules, mac_fields}
 use Rattle.hsm_answers.specs.declared.keys.Asked.{Asked}
 use Rattle.hsm_answers.specs.Keys.{field_text, lmk_key}
-use Rattle.hsm_answers.specs.Macs.{is_only, mac_data}
+use Rattle.hsm_answers.specs.Macs.{is_only, mac_data, mac_algorithm, mac_padding, mac_start}
 use Rattle.hsm_datacmd.specs.declared.mac.Part.{Part}
 use Rattle.hsm_datacmd.specs.declared.mac.Part.TheVariants.{Only, Last, Open}
 use Rattle.hsm_datacmd.specs.declared.mac.MacAsked.{MacAsked}
@@ -29,10 +26,6 @@ pub record AreMacTexts (r : ReadText) : Type 0 where
   pub count : hex_value (field_text r 8) < 2 ^ 16
   pub bytes : IsData (field_text r mac_fields.input) (field_text r mac_fields.message) (hex_value (field_text r 8))
 
--- the chaining value that is given, else 0
-abbrev pub start_by : List ℕ → ℕ
-start_by text = if is_end text then 0 else block_of (map digit_value text)
-
 -- the part that the mode tells, after the chaining value
 abbrev pub part_by : List ℕ → ℕ → Part
 part_by mode start = if bytes_eq mode (codes "0") then Only else if bytes_eq mode (codes "3") then Last start else Open start
@@ -41,24 +34,12 @@ part_by mode start = if bytes_eq mode (codes "0") then Only else if bytes_eq mod
 abbrev pub ends_by : List ℕ → Bool
 ends_by mode = bytes_eq mode (codes "0") || bytes_eq mode (codes "3")
 
--- the algorithm of its field's text
-abbrev pub algorithm_by : List ℕ → Alg
-algorithm_by text = if bytes_eq text (codes "3") then Three else One
-
--- the padding of its field's text
-abbrev pub padding_by : List ℕ → Pad
-padding_by text =
-    if bytes_eq text (codes "1") then Zeros
-    else if bytes_eq text (codes "2") then Bit
-    else if bytes_eq text (codes "3") then Length
-    else Bare
-
 -- what a message asks of its data
 abbrev pub mac_asked : ReadText → MacAsked
 mac_asked r = record {
-  part = part_by (field_text r mac_fields.mode) (start_by (field_text r mac_fields.chain));
-  alg = algorithm_by (field_text r mac_fields.algorithm);
-  pad = padding_by (field_text r mac_fields.padding);
+  part = part_by (field_text r mac_fields.mode) (mac_start r mac_fields);
+  alg = mac_algorithm r mac_fields;
+  pad = mac_padding r mac_fields;
 }
 
 -- the number of parts that an algorithm asks for

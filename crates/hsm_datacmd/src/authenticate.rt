@@ -11,12 +11,12 @@ ghost use Rattle.hsm_rows.specs.Reading.{read_text_of, is_end};
 ghost use Rattle.hsm_rows.specs.Rules.{authenticates, lmk, mac_fields, rules_M6, rules_M8};
 ghost use Rattle.hsm_rows.specs.Standing.{AreTexts, AreHexDigits};
 ghost use Rattle.hsm_rows.specs.Table.{row_M6, row_M8};
-ghost use Rattle.hsm_answers.specs.Keys.{key_of, opened_key, key_data_fault, type_of_code};
+ghost use Rattle.hsm_answers.specs.Keys.{field_text, key_of, opened_key, key_data_fault, type_of_code};
 ghost use Rattle.hsm_answers.specs.Given.{code_in};
 ghost use Rattle.hsm_answers.specs.Checks.{check_before, check_after};
-ghost use Rattle.hsm_answers.specs.Macs.{mac_fault};
+ghost use Rattle.hsm_answers.specs.Macs.{mac_fault, mac_algorithm, mac_padding, mac_start};
 ghost use Rattle.hsm_answers.specs.Plans.{number_of};
-ghost use Rattle.hsm_datacmd.specs.Macs.{AreMacTexts, mac_key_asked, part_by, start_by, algorithm_by, padding_by, parts_by, mac_asked, ends_by, data_value};
+ghost use Rattle.hsm_datacmd.specs.Macs.{AreMacTexts, mac_key_asked, part_by, parts_by, mac_asked, ends_by, data_value};
 ghost use Rattle.hsm_datacmd.specs.Rows.{fields_M6, fields_M8, mac_fields_of};
 
 use crate::command::Passed;
@@ -30,11 +30,19 @@ use hsm_rows::{Code, Fields, Module, same_text, text_at};
 use hsm_tdes::Key;
 use hsm_types::KeyType;
 
-// The chaining value that is given, else 0.
-fn start_by(text: &[u8]) -> u64
-    requires { is_end text.now ≡ false → AreHexDigits 16 text.now }
-    ensures { result ≡ start_by text.now }
+// The text of field k.
+fn text_of<'m>(fields: &Fields<'m>, k: u8) -> &'m [u8]
+    ensures { result.now ≡ field_text (read_text_of fields.now) k }
 {
+    text_at(fields.texts.as_slice(), k)
+}
+
+// The chaining value that is given, else 0.
+fn mac_start(fields: &Fields<'_>) -> u64
+    requires { AreMacTexts (read_text_of fields.now) }
+    ensures { result ≡ mac_start (read_text_of fields.now) mac_fields }
+{
+    let text = text_of(fields, 7);
     if text.is_empty() { 0 } else { block(text) }
 }
 
@@ -51,27 +59,26 @@ fn part_by(mode: &[u8], start: u64) -> Part
     }
 }
 
-fn algorithm_by(text: &[u8]) -> Alg
-    ensures { result ≡ algorithm_by text.now }
+// The algorithm that the message names.
+fn mac_algorithm(fields: &Fields<'_>) -> Alg
+    ensures { result ≡ mac_algorithm (read_text_of fields.now) mac_fields }
 {
-    if same_text(text, b"3") {
+    if same_text(text_of(fields, 3), b"3") {
         Alg::Three
     } else {
         Alg::One
     }
 }
 
-fn padding_by(text: &[u8]) -> Pad
-    ensures { result ≡ padding_by text.now }
+// The padding that the message names.
+fn mac_padding(fields: &Fields<'_>) -> Pad
+    ensures { result ≡ mac_padding (read_text_of fields.now) mac_fields }
 {
-    if same_text(text, b"1") {
-        Pad::Zeros
-    } else if same_text(text, b"2") {
-        Pad::Bit
-    } else if same_text(text, b"3") {
-        Pad::Length
-    } else {
-        Pad::Bare
+    match text_of(fields, 4) {
+        b"1" => Pad::Zeros,
+        b"2" => Pad::Bit,
+        b"3" => Pad::Length,
+        _ => Pad::Bare,
     }
 }
 
@@ -80,11 +87,10 @@ fn mac_asked(fields: &Fields<'_>) -> MacAsked
     requires { AreMacTexts (read_text_of fields.now) }
     ensures { result ≡ mac_asked (read_text_of fields.now) }
 {
-    let texts = fields.texts.as_slice();
     MacAsked {
-        part: part_by(text_at(texts, 0), start_by(text_at(texts, 7))),
-        alg: algorithm_by(text_at(texts, 3)),
-        pad: padding_by(text_at(texts, 4)),
+        part: part_by(text_of(fields, 0), mac_start(fields)),
+        alg: mac_algorithm(fields),
+        pad: mac_padding(fields),
     }
 }
 

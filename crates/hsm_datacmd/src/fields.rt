@@ -1,13 +1,12 @@
 //! The reply fields of the data commands.
 ghost use Rattle.std.specs.Prelude.{◌≡◌, ◌+◌, ◌≤◌, ◌++◌, length, map, take};
-ghost use Rattle.hsm_rows.specs.Texts.{two_digits};
 ghost use Rattle.hsm_answers.specs.Values.{live_of};
 ghost use Rattle.hsm_datacmd.specs.Fields.{written_text};
 
 use hsm_auth::Granted;
 use hsm_lmk::lmk_check;
 use hsm_nibbles::block_characters;
-use hsm_rows::Module;
+use hsm_rows::{Code, Module};
 use hsm_text::Reply;
 
 // The reply fields of a message.
@@ -38,13 +37,6 @@ fn live_grants(granted: &Granted) -> u8
     }
 }
 
-// The two decimal digits of a number below 100.
-fn two_digits(number: u8) -> [u8; 2]
-    ensures { result ≡ two_digits number }
-{
-    [b'0' + number / 10, b'0' + number % 10]
-}
-
 // Appends the reply fields; the data is that of the message.
 pub(crate) fn put_fields(
     module: &Module,
@@ -67,8 +59,8 @@ pub(crate) fn put_fields(
             reply.put(b"0001-LAB1");
         }
         DataFields::State => {
-            reply.put(&two_digits(live_grants(granted)));
-            reply.put(&two_digits(module.hosts));
+            reply.put(&Code(live_grants(granted)).digits());
+            reply.put(&Code(module.hosts).digits());
         }
     }
 }

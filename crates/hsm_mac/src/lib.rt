@@ -35,7 +35,8 @@ pub enum Pad {
     Length,
 }
 
-/// The data is empty, or no such data takes the padding: each call tells when.
+/// Data is refused: it is empty, or it fills no whole blocks of 8 bytes where nothing pads it, or it is the last part of
+/// a message and its padding is `Length`. Each call says which of these it refuses.
 #[derive(Clone, Copy, Debug, PartialEq, Eq)]
 pub struct Uneven;
 

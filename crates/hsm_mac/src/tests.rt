@@ -28,6 +28,7 @@ fn in_parts(
     mac.end(pad, last)
 }
 
+// The values are those that bench/mac_values.py prints, from OpenSSL's DES, also in the next test.
 #[test]
 fn macs_of_whole_messages(rt: HostRuntime) {
     let one = Key::one(&FIRST);

@@ -40,12 +40,10 @@ fn sealed_within(set: &LmkSet, fields: &Fields<'_>) -> Result<Pin, Code>
         return Err(code);
     }
     let account = digits_of(fields, 3);
-    match opened_pin(set, block_of_field(fields, 1), &account) {
-        Ok(pin) => match shorter(number_of(fields, 2), &pin) {
-            Some(code) => Err(code),
-            None => Ok(pin),
-        },
-        Err(code) => Err(code),
+    let pin = opened_pin(set, block_of_field(fields, 1), &account)?;
+    match shorter(number_of(fields, 2), &pin) {
+        Some(code) => Err(code),
+        None => Ok(pin),
     }
 }
 
@@ -59,16 +57,12 @@ fn made_offset(set: &LmkSet, pvk: &Key, fields: &Fields<'_>) -> Result<Left, Cod
         (digits_at (read_text_of fields.now) 3) (pin_sealed set.now (read_text_of fields.now)) (number_at (read_text_of fields.now) 2))) }
     ensures sound { IfOk result CanFinish }
 {
-    match sealed_within(set, fields) {
-        Ok(pin) => {
-            let table = digits_of(fields, 4);
-            let account = digits_of(fields, 3);
-            let check = number_of(fields, 2);
-            let validation = text_of(fields, 5);
-            Ok(Left::Offset(offset_text(pvk, &table, validation, &account, &pin, check)))
-        }
-        Err(code) => Err(code),
-    }
+    let pin = sealed_within(set, fields)?;
+    let table = digits_of(fields, 4);
+    let account = digits_of(fields, 3);
+    let check = number_of(fields, 2);
+    let validation = text_of(fields, 5);
+    Ok(Left::Offset(offset_text(pvk, &table, validation, &account, &pin, check)))
 }
 
 // What a message of DE has, or the code of the first check before its entry that fails.
@@ -80,10 +74,8 @@ pub(crate) fn check_de(module: &Module, fields: &Fields<'_>) -> Result<Passed, C
     ensures left { IfOk result (λ p. p.left ≡ left_after p.late (left_DE «module».now (read_text_of fields.now))) }
     ensures sound { IfOk result (λ p. CanFinish p.left) }
 {
-    match key_of(&module.lmk, KeyType::Tpk, Code(10), text_of(fields, 0)) {
-        Ok(pvk) => Ok(outcome_of(made_offset(&module.lmk, &pvk, fields))),
-        Err(code) => Err(code),
-    }
+    let pvk = key_of(&module.lmk, KeyType::Tpk, Code(10), text_of(fields, 0))?;
+    Ok(outcome_of(made_offset(&module.lmk, &pvk, fields)))
 }
 
 // The PIN of the block that was sent, or the code of the first data check of DA or EA that fails.
@@ -99,18 +91,11 @@ fn sent_between(source: &Key, fields: &Fields<'_>) -> Result<Pin, Code>
     }
     let account = digits_of(fields, 6);
     let sent = block_of_field(fields, 3);
-    match sent_within(
-        source,
-        format_of(fields, 4),
-        sent,
-        &account,
-        number_of(fields, 2),
-    ) {
-        Ok(pin) => match shorter(number_of(fields, 5), &pin) {
-            Some(code) => Err(code),
-            None => Ok(pin),
-        },
-        Err(code) => Err(code),
+    let most = number_of(fields, 2);
+    let pin = sent_within(source, format_of(fields, 4), sent, &account, most)?;
+    match shorter(number_of(fields, 5), &pin) {
+        Some(code) => Err(code),
+        None => Ok(pin),
     }
 }
 
@@ -150,17 +135,10 @@ pub(crate) fn check_offset(
     ensures late { IfOk result (λ p. option_map number_of p.late ≡ check_after «module».now (verifies_offset ty) (read_text_of fields.now)) }
     ensures left { IfOk result (λ p. p.left ≡ Left.Nothing) }
 {
-    match two_keys(
-        &module.lmk,
-        ty,
-        text_of(fields, 0),
-        KeyType::Tpk,
-        text_of(fields, 1),
-    ) {
-        Ok(keys) => Ok(Passed {
-            late: offset_code(&keys.source, &keys.second, fields),
-            left: Left::Nothing,
-        }),
-        Err(code) => Err(code),
-    }
+    let (first, second) = (text_of(fields, 0), text_of(fields, 1));
+    let keys = two_keys(&module.lmk, ty, first, KeyType::Tpk, second)?;
+    Ok(Passed {
+        late: offset_code(&keys.source, &keys.second, fields),
+        left: Left::Nothing,
+    })
 }

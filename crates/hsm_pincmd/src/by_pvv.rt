@@ -49,10 +49,8 @@ fn made_pvv(set: &LmkSet, pair: &KeyPair, fields: &Fields<'_>) -> Result<Left, C
     ensures sound { IfOk result CanFinish }
 {
     let account = digits_of(fields, 2);
-    match opened_pin(set, block_of_field(fields, 1), &account) {
-        Ok(pin) => Ok(Left::Pvv(pvv_text(pair, &account, index_of(fields, 3), &pin))),
-        Err(code) => Err(code),
-    }
+    let pin = opened_pin(set, block_of_field(fields, 1), &account)?;
+    Ok(Left::Pvv(pvv_text(pair, &account, index_of(fields, 3), &pin)))
 }
 
 // What a message of DG has, or the code of the first check before its entry that fails.
@@ -64,10 +62,8 @@ pub(crate) fn check_dg(module: &Module, fields: &Fields<'_>) -> Result<Passed, C
     ensures left { IfOk result (λ p. p.left ≡ left_after p.late (left_DG «module».now (read_text_of fields.now))) }
     ensures sound { IfOk result (λ p. CanFinish p.left) }
 {
-    match pvk_pair(&module.lmk, Code(10), text_of(fields, 0)) {
-        Ok(pair) => Ok(outcome_of(made_pvv(&module.lmk, &pair, fields))),
-        Err(code) => Err(code),
-    }
+    let pair = pvk_pair(&module.lmk, Code(10), text_of(fields, 0))?;
+    Ok(outcome_of(made_pvv(&module.lmk, &pair, fields)))
 }
 
 // The code of the first check of DC or EC after the entry that fails; the PVV is the last.
@@ -104,11 +100,9 @@ pub(crate) fn check_pvv(module: &Module, ty: KeyType, fields: &Fields<'_>) -> Re
     ensures late { IfOk result (λ p. option_map number_of p.late ≡ check_after «module».now (verifies_pvv ty) (read_text_of fields.now)) }
     ensures left { IfOk result (λ p. p.left ≡ Left.Nothing) }
 {
-    match key_and_pair(&module.lmk, ty, text_of(fields, 0), text_of(fields, 1)) {
-        Ok(keys) => Ok(Passed {
-            late: pvv_code(&keys, fields),
-            left: Left::Nothing,
-        }),
-        Err(code) => Err(code),
-    }
+    let keys = key_and_pair(&module.lmk, ty, text_of(fields, 0), text_of(fields, 1))?;
+    Ok(Passed {
+        late: pvv_code(&keys, fields),
+        left: Left::Nothing,
+    })
 }

@@ -60,13 +60,11 @@ fn given_pin(fields: &Fields<'_>) -> Result<Left, Code>
         ≡ Left.Seal (clear_digits (field_text (read_text_of fields.now) 0)) (digits_at (read_text_of fields.now) 1)) }
     ensures sound { IfOk result CanFinish }
 {
-    match clear_pin(text_of(fields, 0)) {
-        Ok(pin) => Ok(Left::Seal {
-            pin,
-            account: digits_of(fields, 1),
-        }),
-        Err(code) => Err(code),
-    }
+    let pin = clear_pin(text_of(fields, 0))?;
+    Ok(Left::Seal {
+        pin,
+        account: digits_of(fields, 1),
+    })
 }
 
 // What a message of BA has.
@@ -89,14 +87,9 @@ fn shown_pin(module: &Module, fields: &Fields<'_>) -> Result<Left, Code>
         ≡ Left.Show (opened_pin «module».now.lmk (block_at (read_text_of fields.now) 1) (digits_at (read_text_of fields.now) 0))) }
     ensures sound { IfOk result CanFinish }
 {
-    match opened_pin(
-        &module.lmk,
-        block_of_field(fields, 1),
-        &digits_of(fields, 0),
-    ) {
-        Ok(pin) => Ok(Left::Show(pin)),
-        Err(code) => Err(code),
-    }
+    let account = digits_of(fields, 0);
+    let pin = opened_pin(&module.lmk, block_of_field(fields, 1), &account)?;
+    Ok(Left::Show(pin))
 }
 
 // What a message of NG has.

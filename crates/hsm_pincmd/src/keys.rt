@@ -64,22 +64,18 @@ pub(crate) fn pvk_pair(set: &LmkSet, parity: Code, text: &[u8]) -> Result<KeyPai
 // The keys of two texts, of these types, or the first code that holds of the first of them that has one.
 pub(crate) fn two_keys(
     set: &LmkSet,
-    first: KeyType,
-    source: &[u8],
-    then: KeyType,
-    second: &[u8],
+    first_type: KeyType,
+    first_text: &[u8],
+    second_type: KeyType,
+    second_text: &[u8],
 ) -> Result<TwoKeys, Code>
-    ensures fault { code_in result ≡ first_code (type_fault set.now first 10 source.now ∷ type_fault set.now then 11 second.now ∷ []) }
-    ensures source { IfOk result (λ keys. keys.source ≡ type_key set.now first source.now) }
-    ensures second { IfOk result (λ keys. keys.second ≡ type_key set.now then second.now) }
+    ensures fault { code_in result ≡ first_code (type_fault set.now first_type 10 first_text.now ∷ type_fault set.now second_type 11 second_text.now ∷ []) }
+    ensures source { IfOk result (λ keys. keys.source ≡ type_key set.now first_type first_text.now) }
+    ensures second { IfOk result (λ keys. keys.second ≡ type_key set.now second_type second_text.now) }
 {
-    match key_of(set, first, Code(10), source) {
-        Ok(source) => match key_of(set, then, Code(11), second) {
-            Ok(second) => Ok(TwoKeys { source, second }),
-            Err(code) => Err(code),
-        },
-        Err(code) => Err(code),
-    }
+    let source = key_of(set, first_type, Code(10), first_text)?;
+    let second = key_of(set, second_type, Code(11), second_text)?;
+    Ok(TwoKeys { source, second })
 }
 
 // The key and the PVK pair of two texts, or the first code that holds of the first of them that has one.
@@ -97,11 +93,7 @@ pub(crate) fn key_and_pair(
     ensures first_part { IfOk result (λ keys. length keys.pair.first ≡ 1) }
     ensures second_part { IfOk result (λ keys. length keys.pair.second ≡ 1) }
 {
-    match key_of(set, ty, Code(10), key) {
-        Ok(source) => match pvk_pair(set, Code(11), pair) {
-            Ok(pair) => Ok(KeyAndPair { source, pair }),
-            Err(code) => Err(code),
-        },
-        Err(code) => Err(code),
-    }
+    let source = key_of(set, ty, Code(10), key)?;
+    let pair = pvk_pair(set, Code(11), pair)?;
+    Ok(KeyAndPair { source, pair })
 }

@@ -46,6 +46,7 @@ pub(crate) enum Left {
     },
 }
 
+// The two digits of the format, as a message names it.
 fn format_code(format: Format) -> [u8; 2]
     ensures { result ≡ format_code format }
 {

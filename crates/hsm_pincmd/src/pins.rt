@@ -92,11 +92,9 @@ pub(crate) fn sent_within(
         ≡ first_code (sent_fault key.now format block account.now ∷ longer_fault most (sent_pin key.now format block account.now) ∷ []) }
     ensures pin { IfOk result (λ pin. pin ≡ sent_pin key.now format block account.now) }
 {
-    match sent_pin(key, format, block, account) {
-        Ok(pin) => match longer(most, &pin) {
-            Some(code) => Err(code),
-            None => Ok(pin),
-        },
-        Err(code) => Err(code),
+    let pin = sent_pin(key, format, block, account)?;
+    match longer(most, &pin) {
+        Some(code) => Err(code),
+        None => Ok(pin),
     }
 }

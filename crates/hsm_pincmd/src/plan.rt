@@ -16,7 +16,8 @@ use hsm_auth::{Ask, Granted};
 use hsm_rows::{Code, Module, Row, read_fields, texts_stand};
 use hsm_text::Reply;
 
-/// What a message of a PIN command comes to before its entry. Where a check fails it keeps no PIN.
+/// What a message of a PIN command comes to before its entry. Where a check before the entry or of the data fails it
+/// keeps no PIN.
 #[derive(Clone, Copy)]
 pub struct PinPlan<'m> {
     row: &'static Row,

@@ -34,21 +34,14 @@ fn translated(source: &Key, target: &Key, fields: &Fields<'_>) -> Result<Left, C
 {
     let account = digits_of(fields, 6);
     let sent = block_of_field(fields, 3);
-    match sent_within(
-        source,
-        format_of(fields, 4),
-        sent,
-        &account,
-        number_of(fields, 2),
-    ) {
-        Ok(pin) => Ok(Left::Translate {
-            pin,
-            format: format_of(fields, 5),
-            account,
-            key: *target,
-        }),
-        Err(code) => Err(code),
-    }
+    let most = number_of(fields, 2);
+    let pin = sent_within(source, format_of(fields, 4), sent, &account, most)?;
+    Ok(Left::Translate {
+        pin,
+        format: format_of(fields, 5),
+        account,
+        key: *target,
+    })
 }
 
 // What a message of CA or CC has, the first key being of the type; or the code of the first check before its entry that
@@ -65,14 +58,7 @@ pub(crate) fn check_translation(
     ensures left { IfOk result (λ p. p.left ≡ left_after p.late (left_translation ty «module».now (read_text_of fields.now))) }
     ensures sound { IfOk result (λ p. CanFinish p.left) }
 {
-    match two_keys(
-        &module.lmk,
-        ty,
-        text_of(fields, 0),
-        KeyType::Zpk,
-        text_of(fields, 1),
-    ) {
-        Ok(keys) => Ok(outcome_of(translated(&keys.source, &keys.second, fields))),
-        Err(code) => Err(code),
-    }
+    let (first, second) = (text_of(fields, 0), text_of(fields, 1));
+    let keys = two_keys(&module.lmk, ty, first, KeyType::Zpk, second)?;
+    Ok(outcome_of(translated(&keys.source, &keys.second, fields)))
 }

@@ -1,5 +1,5 @@
 use crate::{cvv, natural_pin, offset, offset_matches, pvv, select, table_ok};
-use hsm_tdes::{Key, decipher, encipher};
+use hsm_tdes::Key;
 use hsm_types::Pin;
 use std::test::Fail;
 
@@ -43,11 +43,7 @@ fn tables(rt: HostRuntime) {
     );
 }
 
-// E (A, D (B, E (A, x))).
-fn under_pair(a: &Key, b: &Key, x: u64) -> u64 {
-    encipher(a, decipher(b, encipher(a, x)))
-}
-
+// The values are those that bench/card_values.py prints, from OpenSSL's DES.
 #[test]
 fn values_of_cards(rt: HostRuntime) -> Result<(), Fail> {
     let a = Key::one(&FIRST);
@@ -55,18 +51,9 @@ fn values_of_cards(rt: HostRuntime) -> Result<(), Fail> {
     let pan = [4, 1, 2, 3, 4, 5, 6, 7, 8, 9, 0, 1, 2, 3, 4, 5];
     assert_eq!(rt; cvv(&a, &b, &pan, &[8, 7, 0, 1], &[1, 0, 1]), [5, 6, 1]);
     let longest = [4, 1, 2, 3, 4, 5, 6, 7, 8, 9, 0, 1, 2, 3, 4, 5, 6, 7, 8];
-    let x = encipher(&a, 0x4123_4567_8901_2345) ^ 0x6788_7011_0100_0000;
-    let digits = select(under_pair(&a, &b, x), 3);
-    assert_eq!(rt;
-        cvv(&a, &b, &longest, &[8, 7, 0, 1], &[1, 0, 1]),
-        [digits[0], digits[1], digits[2]]
-    );
+    assert_eq!(rt; cvv(&a, &b, &longest, &[8, 7, 0, 1], &[1, 0, 1]), [3, 6, 2]);
     let pin = Pin::of(&[1, 2, 3, 4]).ok_or("a PIN")?;
     let account = [1, 2, 3, 4, 5, 6, 7, 8, 9, 0, 1, 2];
-    let digits = select(under_pair(&a, &b, 0x2345_6789_0121_1234), 4);
-    assert_eq!(rt;
-        pvv(&a, &b, &account, 1, &pin),
-        [digits[0], digits[1], digits[2], digits[3]]
-    );
+    assert_eq!(rt; pvv(&a, &b, &account, 1, &pin), [2, 5, 0, 4]);
     Ok(())
 }
