@@ -10,7 +10,8 @@ ghost use Rattle.hsm_tool.specs.Files.{FilesStay, ReadsFile};
 ghost use Rattle.hsm_tool.specs.Settings.{Says, run_module};
 ghost use Rattle.hsm_tool.specs.Words.{asked, names, word_at};
 ghost use Rattle.hsm_tool.specs.Runs.{AnswersCheck, AnswersConfig, AnswersRow, AnswersScript, AnswersWords, FileCause, HasStatus};
-ghost use Rattle.hsm_tool.specs.Runs.{IsAfterConfig, IsPrinted, IsRefusal, OfCheck, OfConfig, OfRow, OfScript, ReadsConfig, WithoutFile, WritesNothing, status_of};
+ghost use Rattle.hsm_tool.specs.Runs.{OfCheck, OfConfig, OfRow, OfScript, WithoutFile, WritesNothing, status_of};
+ghost use Rattle.hsm_tool.specs.Parts.{IsAfterConfig, IsPrinted, IsRefusal, ReadsConfig};
 
 use crate::command::{Command, WordsFault, read_words};
 use crate::reading::{ReadingFault, read_all};
@@ -18,7 +19,7 @@ use hsm_auth::Ledger;
 use hsm_config::{Config, ConfigFault};
 use hsm_io::{Bench, Sink, write_all};
 use hsm_rows::{Module, Row, explain};
-use hsm_session::{ScriptEnd, ScriptFault, clear_in_runs, script_run};
+use hsm_session::{ScriptEnd, ScriptFault, clear_in_runs, legal_runs, script_run};
 use hsm_text::Reply;
 use itoa::Buffer;
 use std::alloc::Global;
@@ -155,6 +156,7 @@ fn run_file<B: Bench, S: Sink>(
     ensures given_back { (B.files bench.new).is_out ≡ false }
 {
     clear_in_runs();
+    legal_runs();
     let bytes = match read_file(alloc, file, bench) {
         Ok(bytes) => bytes,
         Err(ReadingFault::Memory) => return end_with(5, Outcome::Memory),
@@ -274,6 +276,7 @@ pub fn hsm_run<B: Bench, S: Sink>(
     ensures config { OfConfig (asked (names words.now)) (λ name. (bytes : List ℕ) → (B.files bench.old).bytes_of name ≡ Some bytes →
         AnswersConfig name bytes (B.files bench.new).bad_name result.outcome) }
     // Where it tells those of a configuration and of the script's file, they decide the outcome, the status and the output, but for faults and want of memory.
+    // Each authorisation of the run is by a console text of the script with both officers' words, and what is shown in the clear is shown under a grant so given.
     ensures script { OfScript (asked (names words.now)) (λ name file. (settings bytes : List ℕ) (config : Config) →
         (B.files bench.old).bytes_of name ≡ Some settings → (B.files bench.old).bytes_of file ≡ Some bytes → Says settings config →
         AnswersScript (run_module config) bytes (S.stands_for out.old) (S.stands_for out.new) result.status result.outcome) }
