@@ -24,13 +24,13 @@ is_test (Some text) = bytes_eq text (codes "test")
 abbrev pub pair_numbers : List ℕ
 pair_numbers = 0 ∷ 1 ∷ 2 ∷ 3 ∷ 4 ∷ 5 ∷ 6 ∷ 7 ∷ 8 ∷ 9 ∷ 10 ∷ 11 ∷ 12 ∷ 13 ∷ 14 ∷ 15 ∷ 16 ∷ 17 ∷ 18 ∷ 19 ∷ []
 
--- a pair whose halves have equal bytes, made odd
-abbrev pub even_pair : ℕ → ℕ → List ℕ
-even_pair left right = replicate 8 (adjusted_byte left) ++ replicate 8 (adjusted_byte right)
+-- a pair of which each half is one byte, made odd, eight times
+abbrev pub repeated_pair : ℕ → ℕ → List ℕ
+repeated_pair left right = replicate 8 (adjusted_byte left) ++ replicate 8 (adjusted_byte right)
 
 -- the LMK pairs of the test set
 unfoldable pub test_pairs : List (List ℕ)
-test_pairs = map (λ k. even_pair (32 + 2 * k) (96 + 2 * k)) pair_numbers
+test_pairs = map (λ k. repeated_pair (32 + 2 * k) (96 + 2 * k)) pair_numbers
 
 -- every byte of the pairs has odd parity
 abbrev pub are_odd : List (List ℕ) → Bool

@@ -41,7 +41,7 @@ pub enum ConfigFault {
     /// The bytes are no TOML document.
     NotToml,
     /// The document breaks this rule, 1 to 10, and none before it.
-    Rule(u8),
+    Rule(u64),
 }
 
 impl Config {
@@ -55,7 +55,6 @@ impl Config {
         // What `module` wants of a configuration.
         ensures odd { IfOk result (λ config. IsTrue (are_odd config.pairs)) }
         ensures some_host { IfOk result (λ config. 1 ≤ length config.host_ports.items) }
-        ensures most_hosts { IfOk result (λ config. length config.host_ports.items ≤ 64) }
     {
         match toml::table_from_slice(alloc, bytes) {
             Ok(table) => config_of(&table),
@@ -74,7 +73,6 @@ impl Config {
     pub fn module(&self, seed: [u8; 32]) -> Module
         requires odd { IsTrue (are_odd self.now.pairs) }
         requires some_host { 1 ≤ length self.now.host_ports.items }
-        requires most_hosts { length self.now.host_ports.items ≤ 64 }
         ensures { result ≡ module_of self.now seed }
     {
         match LmkSet::of(&self.pairs) {

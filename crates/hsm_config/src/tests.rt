@@ -89,23 +89,29 @@ fn reads_the_sample(rt: &impl Abort, alloc: Global) -> Result<(), Fail> {
 }
 
 fn reads_other_values(rt: &impl Abort, alloc: Global) -> Result<(), Fail> {
-    let cases: [(usize, &str); 9] = [
-        (0, "version = 0x1"),
-        (1, "header = 0"),
-        (1, "header = 0xFF"),
+    // A line at its place, and the header's length and the number of connections that are read with it.
+    let cases: [(usize, &str, u8, u16); 9] = [
+        (0, "version = 0x1", 4, 8),
+        (1, "header = 0", 0, 8),
+        (1, "header = 0xFF", 255, 8),
         (
             2,
             "officers = [\"BA7816BF8F01CFEA414140DE5DAE2223B00361A396177A9CB410FF61F20015AD\", \"2CF24DBA5FB0A30E26E83B2AC5B9E29E1B161E5C1FA7425E73043362938B9824\"]",
+            4,
+            8,
         ),
-        (4, "console_port = 65535"),
-        (5, "host_ports = [1]"),
-        (6, "accept = 4_096"),
-        (6, "accept = 1"),
-        (7, "# a remark"),
+        (4, "console_port = 65535", 4, 8),
+        (5, "host_ports = [1]", 4, 8),
+        (6, "accept = 4_096", 4, 4096),
+        (6, "accept = 1", 4, 1),
+        (7, "# a remark", 4, 8),
     ];
-    for (place, line) in cases {
+    for (place, line, header, accept) in cases {
         let text = changed(alloc, &LINES, place, line)?;
-        assert_eq!(rt; fault_of(alloc, text.as_bytes()), None);
+        let config = Config::read(alloc, text.as_bytes()).ok().ok_or("refused")?;
+        assert_eq!(rt; config.header, header);
+        assert_eq!(rt; config.officers, DIGESTS);
+        assert_eq!(rt; config.accept, accept);
     }
     for last in [
         PAIR,
@@ -120,7 +126,7 @@ fn reads_other_values(rt: &impl Abort, alloc: Global) -> Result<(), Fail> {
 }
 
 fn refuses_broken_lines(rt: &impl Abort, alloc: Global) -> Result<(), Fail> {
-    let cases: [(usize, &str, u8); 36] = [
+    let cases: [(usize, &str, u64); 36] = [
         (7, "extra = 1", 1),
         (7, "a.b = 1", 1),
         (7, "[table]", 1),
@@ -182,9 +188,11 @@ fn refuses_broken_lines(rt: &impl Abort, alloc: Global) -> Result<(), Fail> {
 }
 
 fn refuses_pairs(rt: &impl Abort, alloc: Global) -> Result<(), Fail> {
-    let cases: [(usize, &str, u8); 4] = [
+    let cases: [(usize, &str, u64); 5] = [
         (19, PAIR, 5),
         (21, PAIR, 5),
+        // One pair too many, and that one is even.
+        (21, "133457799BBCDFF1133457799BBCDFF0", 5),
         (20, "133457799BBCDFF1133457799BBCDFF", 5),
         (20, "133457799BBCDFF1133457799BBCDFF0", 6),
     ];
@@ -199,7 +207,7 @@ fn refuses_pairs(rt: &impl Abort, alloc: Global) -> Result<(), Fail> {
     Ok(())
 }
 
-// Of two broken rules the first is told.
+// A broken rule is told, and of two broken rules the first.
 fn tells_the_first(rt: &impl Abort, alloc: Global) -> Result<(), Fail> {
     let even = pairs_line(alloc, 20, "133457799BBCDFF1133457799BBCDFF0")?;
     let breaks: [(usize, &str); 10] = [
@@ -220,11 +228,12 @@ fn tells_the_first(rt: &impl Abort, alloc: Global) -> Result<(), Fail> {
         lines[place] = line;
         for second in first..10 {
             let (other, broken) = breaks[second];
-            if other != place {
+            // Two of one line can't both be broken here.
+            if other != place || second == first {
                 let text = changed(alloc, &lines, other, broken)?;
                 assert_eq!(rt;
                     fault_of(alloc, text.as_bytes()),
-                    Some(ConfigFault::Rule(first as u8 + 1))
+                    Some(ConfigFault::Rule(first as u64 + 1))
                 );
             }
         }

@@ -16,3 +16,6 @@ pub mod ScriptLaws
 pub mod PlanLaws
 pub mod FamilyLaws
 pub mod ClearRuns
+pub mod OneRun
+pub mod CutPieces
+pub mod Limits

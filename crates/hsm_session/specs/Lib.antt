@@ -5,3 +5,4 @@ pub mod Runs
 pub mod Lanes
 pub mod Reading
 pub mod Clear
+pub mod Cuts

@@ -4,6 +4,7 @@
 mod clear;
 mod families;
 mod lane;
+mod laws;
 mod lines;
 mod plans;
 mod run;
@@ -12,6 +13,7 @@ mod text;
 mod whole;
 
 pub use clear::clear_in_runs;
+pub use laws::{cut_pieces_join, legal_runs, one_run};
 pub use lines::{Line, read_script};
 pub use plans::{Kind, Plan, finish, prepare};
 pub use script::{ScriptEnd, ScriptFault, script_run};

@@ -1,5 +1,5 @@
 -- The answers of the top call and their causes.
-use Rattle.std.specs.Prelude.{◌≡◌, ℕ, ◌+◌, ◌<◌, ◌≤◌, ◌⊎◌, ◌==◌, List, [], length, slice_get, Some, if◌then◌else◌, Result, Ok, Err}
+use Rattle.std.specs.Prelude.{◌≡◌, ℕ, ◌+◌, ◌<◌, ◌≤◌, ◌⊎◌, ◌==◌, List, [], length, slice_get, Some, if◌then◌else◌, Ok, Err}
 use Rattle.hsm_io.specs.Outside.{Rose}
 use Rattle.hsm_io.specs.Files.{kept_name}
 use Rattle.hsm_io.specs.Texts.{Appends, AppendsFront, Stays}
@@ -12,7 +12,9 @@ use Rattle.hsm_session.specs.declared.script.ScriptEnd.{ScriptEnd}
 use Rattle.hsm_session.specs.Scripts.{Said, script_of}
 use Rattle.hsm_answers.specs.Clear.{ShowsClear}
 use Rattle.hsm_answers.specs.Messages.{Side}
-use Rattle.hsm_session.specs.Clear.{IsEntryOf, IsGranted}
+use Rattle.hsm_auth.specs.declared.activity.Activity.{Activity}
+use Rattle.hsm_auth.specs.declared.entry.Ask.TheVariants.{Authorise}
+use Rattle.hsm_session.specs.Clear.{IsByOfficers, IsEntryOf, IsGranted}
 use Rattle.hsm_session.specs.Runs.{Told}
 use Rattle.hsm_tool.specs.Files.{file_limit}
 use Rattle.hsm_tool.specs.Words.{Asked, usage, script, check, explain}
@@ -20,8 +22,7 @@ use Rattle.hsm_config.specs.Configs.{config_in}
 use Rattle.hsm_config.specs.declared.configuration.Config.{Config}
 use Rattle.hsm_config.specs.declared.configuration.ConfigFault.TheVariants.{NotToml, Rule}
 use Rattle.hsm_config.specs.declared.configuration.ConfigFault.TheVariants as fault
-use Rattle.hsm_tool.specs.Settings.{IsConfig, Says, check_text}
-use Rattle.hsm_tool.specs.declared.run.Ended.{Ended}
+use Rattle.hsm_tool.specs.Settings.{IsConfig, check_text}
 use Rattle.hsm_tool.specs.declared.run.Outcome.{Outcome}
 use Rattle.hsm_tool.specs.declared.run.Outcome.TheVariants.{Served, Usage, FileFault, OutFault, FileLong, ConfigRefused, ScriptRefused, Memory}
 
@@ -31,57 +32,6 @@ AnswersWords (usage place) outcome = outcome ≡ Usage place
 AnswersWords (script config file) outcome = (place : ℕ) → outcome ≡ Usage place → ⊥
 AnswersWords (check config) outcome = (place : ℕ) → outcome ≡ Usage place → ⊥
 AnswersWords (explain row) outcome = (place : ℕ) → outcome ≡ Usage place → ⊥
-
--- why a configuration is not there, and the status then
-abbrev pub IsRefusal : ℕ → Outcome → Type 0
-IsRefusal status FileFault = status ≡ 3
-IsRefusal status FileLong = status ≡ 4
-IsRefusal status (ConfigRefused NotToml) = status ≡ 4
-IsRefusal status (ConfigRefused (Rule n)) = status ≡ 4
-IsRefusal status (ConfigRefused fault.Memory) = ⊥
-IsRefusal status Memory = status ≡ 5
-IsRefusal status Served = ⊥
-IsRefusal status OutFault = ⊥
-IsRefusal status (Usage place) = ⊥
-IsRefusal status (ScriptRefused line) = ⊥
-
--- the same by the bytes of its file; that it could not be opened or read, and want of memory, have their causes elsewhere
-abbrev pub RefusesConfig : List ℕ → Outcome → Type 0
-RefusesConfig bytes (ConfigRefused why) = (length bytes ≤ file_limit) × (config_in bytes ≡ Err why)
-RefusesConfig bytes FileLong = file_limit < length bytes
-RefusesConfig bytes FileFault = Unit {0}
-RefusesConfig bytes Memory = Unit {0}
-RefusesConfig bytes Served = ⊥
-RefusesConfig bytes OutFault = ⊥
-RefusesConfig bytes (Usage place) = ⊥
-RefusesConfig bytes (ScriptRefused line) = ⊥
-
--- the configuration that the bytes of a file say, or why there is none
-abbrev pub ReadsConfig : List ℕ → Result Config Ended → Type 0
-ReadsConfig bytes (Ok config) = Says bytes config
-ReadsConfig bytes (Err ended) = RefusesConfig bytes ended.outcome
-
--- an answer that comes only after the configuration
-abbrev pub IsAfterConfig : Outcome → Type 0
-IsAfterConfig Served = Unit {0}
-IsAfterConfig OutFault = Unit {0}
-IsAfterConfig FileFault = Unit {0}
-IsAfterConfig FileLong = Unit {0}
-IsAfterConfig (ScriptRefused line) = Unit {0}
-IsAfterConfig Memory = Unit {0}
-IsAfterConfig (ConfigRefused why) = ⊥
-IsAfterConfig (Usage place) = ⊥
-
--- an answer of printing
-abbrev pub IsPrinted : Outcome → Type 0
-IsPrinted Served = Unit {0}
-IsPrinted OutFault = Unit {0}
-IsPrinted FileFault = ⊥
-IsPrinted FileLong = ⊥
-IsPrinted (ScriptRefused line) = ⊥
-IsPrinted Memory = ⊥
-IsPrinted (ConfigRefused why) = ⊥
-IsPrinted (Usage place) = ⊥
 
 -- what holds of the configuration that the words name
 abbrev pub OfConfig : Asked → (List ℕ → Type 0) → Type 0
@@ -134,27 +84,39 @@ AnswersConfig name bytes bad Memory = Unit {0}
 abbrev pub status_of : ScriptEnd → ℕ
 status_of over = if over.cut + over.short == 0 then 0 else 6
 
--- An answer of the history that shows a clear key or PIN stands at an entry at which a live grant covers what its row needs, and a console's `A` with both
--- officers' words gave that grant before.
-abbrev pub ShowsGranted : Module → List Entry → Type 0
-ShowsGranted m history =
+-- Each entry of the history that authorises is that of a console text of the script, an `A` with both officers' words.
+abbrev pub AuthorisedByOfficers : Module → List Said → List Entry → Type 0
+AuthorisedByOfficers m lines history =
+    (i : ℕ) (e : Entry) (activity : Activity) (minutes : ℕ)
+    → slice_get history i ≡ Some e → e.ask ≡ Authorise activity minutes → IsByOfficers m lines history i activity minutes
+
+-- An answer of the history that shows a clear key or PIN stands at an entry at which a live grant covers what its row needs, and a console
+-- text of the script, an `A` with both officers' words, gave that grant before.
+abbrev pub ShowsGranted : Module → List Said → List Entry → Type 0
+ShowsGranted m lines history =
     (i : ℕ) (e : Entry) (side : Side) (moment : ℕ) (message : List ℕ)
     → slice_get history i ≡ Some e → IsEntryOf m history i side moment message → (s : ShowsClear m side message e.granted)
-    → IsGranted m 0 history i moment s.row s.read
+    → IsGranted m lines 0 history i moment s.row s.read
 
--- The outcome, the status and what was written, by the module of the configuration and the bytes of the script's file, over one
--- legal history from the opening ledger; where a write failed, a part from the front of what the run prints. A fault and want of
--- memory have their causes elsewhere.
+-- A run of these lines from the opening ledger comes to this legal history, prints this text and ends so. Each authorisation in it is by a
+-- console text of the script with both officers' words, and what is shown in the clear is shown under a grant so given.
+pub record IsRun (m : Module) (lines : List Said) (last : List Entry) (text : List ℕ) (over : ScriptEnd) : Type 0 where
+  pub told : Told m [] lines last text over
+  pub legal : IsLegal last
+  pub authorised : AuthorisedByOfficers m lines last
+  pub granted : ShowsGranted m lines last
+
+-- The outcome, the status and what was written, by the module of the configuration and the bytes of the script's file; where a
+-- write failed, a part from the front of what the run prints. A fault and want of memory have their causes elsewhere.
 abbrev pub AnswersScript : Module → List ℕ → (List ℕ → Type 0) → (List ℕ → Type 0) → ℕ → Outcome → Type 0
 AnswersScript m bytes before after status Served =
     (length bytes ≤ file_limit)
     × ((lines : List Said) × (last : List Entry) × (text : List ℕ) × (over : ScriptEnd)
-    × (script_of m.hosts bytes ≡ Ok lines) × Told m [] lines last text over × IsLegal last × ShowsGranted m last × Appends before after text
-    × (status ≡ status_of over))
+    × (script_of m.hosts bytes ≡ Ok lines) × IsRun m lines last text over × Appends before after text × (status ≡ status_of over))
 AnswersScript m bytes before after status OutFault =
     (length bytes ≤ file_limit)
     × ((lines : List Said) × (last : List Entry) × (text : List ℕ) × (over : ScriptEnd)
-    × (script_of m.hosts bytes ≡ Ok lines) × Told m [] lines last text over × ShowsGranted m last × AppendsFront before after text)
+    × (script_of m.hosts bytes ≡ Ok lines) × IsRun m lines last text over × AppendsFront before after text)
 AnswersScript m bytes before after status FileLong = file_limit < length bytes
 AnswersScript m bytes before after status (ScriptRefused line) = (length bytes ≤ file_limit) × (script_of m.hosts bytes ≡ Err line)
 AnswersScript m bytes before after status (Usage place) = ⊥

@@ -14,6 +14,7 @@ pub const FILE_LIMIT: usize = 16_777_216;
 /// Why a file was not read.
 #[derive(Clone, Copy, Debug, PartialEq, Eq)]
 pub enum ReadingFault {
+    /// Want of memory.
     Memory,
     /// A read failed.
     Failed,

@@ -10,7 +10,8 @@ ghost use Rattle.hsm_tool.specs.Files.{FilesStay, ReadsFile};
 ghost use Rattle.hsm_tool.specs.Settings.{Says, run_module};
 ghost use Rattle.hsm_tool.specs.Words.{asked, names, word_at};
 ghost use Rattle.hsm_tool.specs.Runs.{AnswersCheck, AnswersConfig, AnswersRow, AnswersScript, AnswersWords, FileCause, HasStatus};
-ghost use Rattle.hsm_tool.specs.Runs.{IsAfterConfig, IsPrinted, IsRefusal, OfCheck, OfConfig, OfRow, OfScript, ReadsConfig, WithoutFile, WritesNothing, status_of};
+ghost use Rattle.hsm_tool.specs.Runs.{OfCheck, OfConfig, OfRow, OfScript, WithoutFile, WritesNothing, status_of};
+ghost use Rattle.hsm_tool.specs.Parts.{IsAfterConfig, IsPrinted, IsRefusal, ReadsConfig};
 
 use crate::command::{Command, WordsFault, read_words};
 use crate::reading::{ReadingFault, read_all};
@@ -18,7 +19,7 @@ use hsm_auth::Ledger;
 use hsm_config::{Config, ConfigFault};
 use hsm_io::{Bench, Sink, write_all};
 use hsm_rows::{Module, Row, explain};
-use hsm_session::{ScriptEnd, ScriptFault, clear_in_runs, script_run};
+use hsm_session::{ScriptEnd, ScriptFault, clear_in_runs, legal_runs, script_run};
 use hsm_text::Reply;
 use itoa::Buffer;
 use std::alloc::Global;
@@ -47,7 +48,9 @@ pub enum Outcome {
 /// The status of a run and its outcome.
 #[derive(Clone, Copy, Debug, PartialEq, Eq)]
 pub struct Ended {
+    /// The exit status of the program: that of the outcome, as each of them says.
     pub status: u8,
+    /// What the run came to.
     pub outcome: Outcome,
 }
 
@@ -101,7 +104,6 @@ fn read_config<B: Bench>(alloc: Global, name: &str, bench: &mut B) -> Result<Con
         (Rose (B.files bench.old).faults (B.files bench.new).faults) × ((B.files bench.new).bad_name ≡ kept_name name.now)) }
     ensures odd { IfOk result (λ config. IsTrue (are_odd config.pairs)) }
     ensures some_host { IfOk result (λ config. 1 ≤ length config.host_ports.items) }
-    ensures most_hosts { IfOk result (λ config. length config.host_ports.items ≤ 64) }
     ensures later { (B.files bench.old).faults ≤ (B.files bench.new).faults }
     ensures files { FilesStay (B.files bench.old).bytes_of (B.files bench.new).bytes_of }
     ensures given_back { (B.files bench.new).is_out ≡ false }
@@ -128,7 +130,6 @@ fn read_config<B: Bench>(alloc: Global, name: &str, bench: &mut B) -> Result<Con
 fn run_module(config: &Config) -> Module
     requires odd { IsTrue (are_odd config.now.pairs) }
     requires some_host { 1 ≤ length config.now.host_ports.items }
-    requires most_hosts { length config.now.host_ports.items ≤ 64 }
     ensures { result ≡ run_module config.now }
 {
     config.module([0; 32])
@@ -155,6 +156,7 @@ fn run_file<B: Bench, S: Sink>(
     ensures given_back { (B.files bench.new).is_out ≡ false }
 {
     clear_in_runs();
+    legal_runs();
     let bytes = match read_file(alloc, file, bench) {
         Ok(bytes) => bytes,
         Err(ReadingFault::Memory) => return end_with(5, Outcome::Memory),
@@ -203,7 +205,6 @@ fn run_script<B: Bench, S: Sink>(
 
 // Prints the number of a configuration's host ports.
 fn print_hosts<S: Sink>(config: &Config, out: &mut S) -> Ended
-    requires { length config.now.host_ports.items ≤ 64 }
     ensures after { IsPrinted result.outcome }
     ensures check { AnswersCheck config.now (S.stands_for out.old) (S.stands_for out.new) result.status result.outcome }
     ensures out_cause { result.outcome ≡ Outcome.OutFault → Rose (S.faults out.old) (S.faults out.new) }
@@ -275,6 +276,7 @@ pub fn hsm_run<B: Bench, S: Sink>(
     ensures config { OfConfig (asked (names words.now)) (λ name. (bytes : List ℕ) → (B.files bench.old).bytes_of name ≡ Some bytes →
         AnswersConfig name bytes (B.files bench.new).bad_name result.outcome) }
     // Where it tells those of a configuration and of the script's file, they decide the outcome, the status and the output, but for faults and want of memory.
+    // Each authorisation of the run is by a console text of the script with both officers' words, and what is shown in the clear is shown under a grant so given.
     ensures script { OfScript (asked (names words.now)) (λ name file. (settings bytes : List ℕ) (config : Config) →
         (B.files bench.old).bytes_of name ≡ Some settings → (B.files bench.old).bytes_of file ≡ Some bytes → Says settings config →
         AnswersScript (run_module config) bytes (S.stands_for out.old) (S.stands_for out.new) result.status result.outcome) }
