@@ -1,5 +1,6 @@
 pub mod Stream
 pub mod Outside
+pub mod Connections
 pub mod Texts
 pub mod Files
 pub mod Moments

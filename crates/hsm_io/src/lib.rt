@@ -4,6 +4,9 @@
 
 mod bench;
 mod clock;
+mod door;
+mod gate;
+mod link;
 mod listed;
 mod mem_bench;
 mod mem_clock;
@@ -16,6 +19,9 @@ mod writing;
 
 pub use bench::Bench;
 pub use clock::Clock;
+pub use door::{Came, Door};
+pub use gate::{Gate, OpenGate};
+pub use link::Link;
 pub use mem_bench::{MemBench, MemNamed};
 pub use mem_clock::MemClock;
 pub use mem_file::MemFile;
