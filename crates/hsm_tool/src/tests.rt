@@ -38,12 +38,12 @@ fn settings(alloc: Global) -> Result<String, AllocError> {
     Ok(text)
 }
 
-// A bench of two files: the configuration `c` and the script `f`.
+// A bench of two files: the configuration `c` and the script `f`, with the reads of each that fail.
 fn bench_of(
     alloc: Global,
     config: Vec<u8>,
     script: Vec<u8>,
-    bad_reads: &[u32],
+    bad_reads: [&[u32]; 2],
     bad_files: &[u32],
 ) -> Result<MemBench, AllocError>
     ensures { IfOk result (λ bench. bench.out ≡ None) }
@@ -52,12 +52,12 @@ fn bench_of(
     files.push(MemNamed {
         name: String::from_str(alloc, "c")?,
         bytes: config,
-        bad_reads: Vec::new(alloc),
+        bad_reads: bad_reads[0].to_vec(alloc)?,
     })?;
     files.push(MemNamed {
         name: String::from_str(alloc, "f")?,
         bytes: script,
-        bad_reads: bad_reads.to_vec(alloc)?,
+        bad_reads: bad_reads[1].to_vec(alloc)?,
     })?;
     Ok(MemBench::new(files, bad_files.to_vec(alloc)?))
 }
@@ -69,9 +69,10 @@ fn ended(status: u8, outcome: Outcome) -> Ended {
 #[test]
 fn words_that_are_no_command(rt: HostRuntime) -> Result<(), Fail> {
     let alloc = rt.alloc();
-    let cases: [(&[&str], u64); 23] = [
+    let cases: [(&[&str], u64); 24] = [
         (&[], 0),
         (&["fly"], 0),
+        (&["serve", "c"], 0),
         (&["--help"], 0),
         (&["check"], 1),
         (&["check", ""], 1),
@@ -95,7 +96,7 @@ fn words_that_are_no_command(rt: HostRuntime) -> Result<(), Fail> {
         (&["script", "c", "f", ""], 3),
     ];
     for (texts, place) in cases {
-        let mut bench = bench_of(alloc, Vec::new(alloc), Vec::new(alloc), &[], &[])?;
+        let mut bench = bench_of(alloc, Vec::new(alloc), Vec::new(alloc), [&[], &[]], &[])?;
         let mut out = MemSink::new(alloc, 100, Vec::new(alloc))?;
         let words = words_of(alloc, texts)?;
         let outcome = hsm_run(alloc, &words, &mut bench, &mut out);
@@ -108,11 +109,13 @@ fn words_that_are_no_command(rt: HostRuntime) -> Result<(), Fail> {
 #[test]
 fn served_and_refused(rt: HostRuntime) -> Result<(), Fail> {
     let alloc = rt.alloc();
-    let cases: [(&[u8], u8, Outcome, &[u8]); 4] = [
+    let cases: [(&[u8], u8, Outcome, &[u8]); 5] = [
         (SCRIPT, 0, Outcome::Served, ANSWER),
         (b"L1 0019", 6, Outcome::Served, b"L1 cut\nEND 0\n"),
         (b"", 0, Outcome::Served, b"END 0\n"),
         (b"L1 00\nX\nL1 19\n", 4, Outcome::ScriptRefused(2), b""),
+        // A module of two host ports has no third lane.
+        (b"T 5\nL3 00", 4, Outcome::ScriptRefused(2), b""),
     ];
     for (script, status, outcome, output) in cases {
         let config = settings(alloc)?;
@@ -120,7 +123,7 @@ fn served_and_refused(rt: HostRuntime) -> Result<(), Fail> {
             alloc,
             config.as_bytes().to_vec(alloc)?,
             script.to_vec(alloc)?,
-            &[],
+            [&[], &[]],
             &[],
         )?;
         let mut out = MemSink::new(alloc, 100, Vec::new(alloc))?;
@@ -182,7 +185,13 @@ fn configurations(rt: HostRuntime) -> Result<(), Fail> {
         ),
     ];
     for (config, texts, status, outcome, output) in cases {
-        let mut bench = bench_of(alloc, config.to_vec(alloc)?, b"X".to_vec(alloc)?, &[], &[])?;
+        let mut bench = bench_of(
+            alloc,
+            config.to_vec(alloc)?,
+            b"X".to_vec(alloc)?,
+            [&[], &[]],
+            &[],
+        )?;
         let mut out = MemSink::new(alloc, 100, Vec::new(alloc))?;
         let words = words_of(alloc, texts)?;
         let run = hsm_run(alloc, &words, &mut bench, &mut out);
@@ -214,7 +223,7 @@ fn explains(rt: HostRuntime) -> Result<(), Fail> {
         ("RA", &[0], 3, Outcome::OutFault, b""),
     ];
     for (code, bad_writes, status, outcome, output) in cases {
-        let mut bench = bench_of(alloc, Vec::new(alloc), Vec::new(alloc), &[], &[])?;
+        let mut bench = bench_of(alloc, Vec::new(alloc), Vec::new(alloc), [&[], &[]], &[])?;
         let mut out = MemSink::new(alloc, 100, bad_writes.to_vec(alloc)?)?;
         let words = words_of(alloc, &["explain", code])?;
         let run = hsm_run(alloc, &words, &mut bench, &mut out);
@@ -228,11 +237,11 @@ fn explains(rt: HostRuntime) -> Result<(), Fail> {
 fn faults_of_the_outside(rt: HostRuntime) -> Result<(), Fail> {
     let alloc = rt.alloc();
     let script: &[&str] = &["script", "c", "f"];
-    // The words, the reads of the script, openings and writes that fail, the outcome, and the bad name.
-    let cases: [(&[&str], &[u32], &[u32], &[u32], Outcome, &[u8]); 9] = [
+    // The words, the reads of the configuration and of the script, openings and writes that fail, the outcome, and the bad name.
+    let cases: [(&[&str], [&[u32]; 2], &[u32], &[u32], Outcome, &[u8]); 11] = [
         (
             &["script", "b", "g"],
-            &[],
+            [&[], &[]],
             &[],
             &[],
             Outcome::FileFault,
@@ -240,19 +249,35 @@ fn faults_of_the_outside(rt: HostRuntime) -> Result<(), Fail> {
         ),
         (
             &["script", "c", "g"],
-            &[],
+            [&[], &[]],
             &[],
             &[],
             Outcome::FileFault,
             b"g",
         ),
-        (script, &[0], &[], &[], Outcome::FileFault, b"f"),
-        (script, &[1], &[], &[], Outcome::FileFault, b"f"),
-        (script, &[], &[0], &[], Outcome::FileFault, b"c"),
-        (script, &[], &[1], &[], Outcome::FileFault, b"f"),
-        (&["check", "b"], &[], &[], &[], Outcome::FileFault, b"b"),
-        (&["check", "c"], &[], &[], &[0], Outcome::OutFault, b""),
-        (script, &[], &[], &[0], Outcome::OutFault, b""),
+        (script, [&[0], &[]], &[], &[], Outcome::FileFault, b"c"),
+        (script, [&[1], &[0]], &[], &[], Outcome::FileFault, b"c"),
+        (script, [&[], &[0]], &[], &[], Outcome::FileFault, b"f"),
+        (script, [&[], &[1]], &[], &[], Outcome::FileFault, b"f"),
+        (script, [&[], &[]], &[0], &[], Outcome::FileFault, b"c"),
+        (script, [&[], &[]], &[1], &[], Outcome::FileFault, b"f"),
+        (
+            &["check", "b"],
+            [&[], &[]],
+            &[],
+            &[],
+            Outcome::FileFault,
+            b"b",
+        ),
+        (
+            &["check", "c"],
+            [&[], &[]],
+            &[],
+            &[0],
+            Outcome::OutFault,
+            b"",
+        ),
+        (script, [&[], &[]], &[], &[0], Outcome::OutFault, b""),
     ];
     for (texts, bad_reads, bad_files, bad_writes, outcome, bad_name) in cases {
         let config = settings(alloc)?;
@@ -287,7 +312,13 @@ fn longest_files(rt: HostRuntime) -> Result<(), Fail> {
     for (size, of_config, of_script) in cases {
         let mut out = MemSink::new(alloc, 100, Vec::new(alloc))?;
         let words = words_of(alloc, &["script", "c", "f"])?;
-        let mut bench = bench_of(alloc, vec![in alloc; 0u8; size]?, Vec::new(alloc), &[], &[])?;
+        let mut bench = bench_of(
+            alloc,
+            vec![in alloc; 0u8; size]?,
+            Vec::new(alloc),
+            [&[], &[]],
+            &[],
+        )?;
         assert_eq!(rt;
             hsm_run(alloc, &words, &mut bench, &mut out),
             ended(4, of_config)
@@ -297,7 +328,7 @@ fn longest_files(rt: HostRuntime) -> Result<(), Fail> {
             alloc,
             config.as_bytes().to_vec(alloc)?,
             vec![in alloc; 0u8; size]?,
-            &[],
+            [&[], &[]],
             &[],
         )?;
         assert_eq!(rt;
