@@ -16,3 +16,5 @@ pub mod ScriptLaws
 pub mod PlanLaws
 pub mod FamilyLaws
 pub mod ClearRuns
+pub mod Makings
+pub mod Talking

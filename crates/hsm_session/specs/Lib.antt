@@ -5,3 +5,5 @@ pub mod Runs
 pub mod Lanes
 pub mod Reading
 pub mod Clear
+pub mod Connections
+pub mod Serving

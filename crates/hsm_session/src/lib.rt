@@ -6,8 +6,10 @@ mod families;
 mod lane;
 mod lines;
 mod plans;
+mod replies;
 mod run;
 mod script;
+mod serving;
 mod text;
 mod whole;
 
@@ -15,4 +17,5 @@ pub use clear::clear_in_runs;
 pub use lines::{Line, read_script};
 pub use plans::{Kind, Plan, finish, prepare};
 pub use script::{ScriptEnd, ScriptFault, script_run};
+pub use serving::{ConnEnd, Report, Tools, least_message, serve_link};
 pub use whole::answer;
