@@ -1,3 +1,4 @@
 pub mod BenchLemmas
+pub mod LinkLemmas
 pub mod Passing
 pub mod TextLemmas

@@ -6,3 +6,4 @@ pub mod Files
 pub mod Moments
 pub mod MemoryForms
 pub mod Places
+pub mod MemoryLinks

@@ -1,5 +1,6 @@
-//! The outside as the module meets it: what bytes are read from and written to, the clock, and the bench with its
-//! files; and a memory form of each, which tells what it holds.
+//! The outside as the module meets it: what bytes are read from and written to, the connections and the doors that they
+//! come from, the gate of a lane, the clock, and the bench with its files; and a memory form of each but the gate, which
+//! tells what it holds.
 #![tactic(auto)]
 
 mod bench;
@@ -10,7 +11,9 @@ mod link;
 mod listed;
 mod mem_bench;
 mod mem_clock;
+mod mem_door;
 mod mem_file;
+mod mem_link;
 mod mem_sink;
 mod names;
 mod sink;
@@ -24,7 +27,9 @@ pub use gate::{Gate, OpenGate};
 pub use link::Link;
 pub use mem_bench::{MemBench, MemNamed};
 pub use mem_clock::MemClock;
+pub use mem_door::MemDoor;
 pub use mem_file::MemFile;
+pub use mem_link::MemLink;
 pub use mem_sink::MemSink;
 pub use names::keep_name;
 pub use sink::{Put, Sink};

@@ -53,3 +53,55 @@ fn clock_gives_its_last_moment_again(rt: HostRuntime) -> Result<(), Fail> {
     assert_eq!(rt; clock.now(), 9);
     Ok(())
 }
+
+#[test]
+fn link_fails_the_listed_calls(rt: HostRuntime) -> Result<(), Fail> {
+    let alloc = rt.alloc();
+    let input = b"abcde".to_vec(alloc)?;
+    let bad_reads = [1].to_vec(alloc)?;
+    let bad_writes = [1].to_vec(alloc)?;
+    let mut link = MemLink::new(alloc, input, 2, 5, bad_reads, bad_writes)?;
+    let mut room = [0u8; 4];
+    assert_eq!(rt; link.read(&mut room), Got::Bytes(2));
+    assert_eq!(rt; room.as_slice(), b"ab\0\0".as_slice());
+    assert_eq!(rt; link.write(b"one"), Put::Took(3));
+    assert_eq!(rt; link.read(&mut room), Got::Failed);
+    assert_eq!(rt; link.write(b"lost"), Put::Failed);
+    assert_eq!(rt; link.read(&mut room[..1]), Got::Bytes(1));
+    assert_eq!(rt; link.read(&mut room), Got::Bytes(2));
+    assert_eq!(rt; room.as_slice(), b"de\0\0".as_slice());
+    assert_eq!(rt; link.read(&mut room), Got::End);
+    assert_eq!(rt; link.write(b"two"), Put::Took(2));
+    assert_eq!(rt; link.write(b"full"), Put::Failed);
+    assert_eq!(rt; link.written(), b"onetw".as_slice());
+    Ok(())
+}
+
+#[test]
+fn door_gives_its_links_and_takes_them_back(rt: HostRuntime) -> Result<(), Fail> {
+    let alloc = rt.alloc();
+    let mut links = Vec::new(alloc);
+    let input = b"a".to_vec(alloc)?;
+    links.push(MemLink::new(alloc, input, 1, 4, Vec::new(alloc), Vec::new(alloc))?)?;
+    let input = Vec::new(alloc);
+    links.push(MemLink::new(alloc, input, 1, 4, Vec::new(alloc), Vec::new(alloc))?)?;
+    let mut door = MemDoor::new(alloc, links, [1].to_vec(alloc)?)?;
+    let Came::Link(mut link) = door.next() else {
+        return Err("no first link")?;
+    };
+    assert_eq!(rt; link.read(&mut [0u8; 2]), Got::Bytes(1));
+    door.done(link);
+    assert!(rt; matches!(door.next(), Came::Failed));
+    let Came::Link(mut link) = door.next() else {
+        return Err("no second link")?;
+    };
+    assert_eq!(rt; link.read(&mut [0u8; 2]), Got::End);
+    assert_eq!(rt; link.write(b"two"), Put::Took(3));
+    door.done(link);
+    assert!(rt; matches!(door.next(), Came::End));
+    let [_, second] = door.taken() else {
+        return Err("not two links")?;
+    };
+    assert_eq!(rt; second.written(), b"two".as_slice());
+    Ok(())
+}
