@@ -1,5 +1,6 @@
 -- Passes and bookings, as contracts see them.
-use Rattle.std.specs.Prelude.{◌≡◌, ℕ, ◌+◌, ◌^◌, ◌<◌, List, [], ◌∷◌, ◌++◌, length, slice_get, Some}
+use Rattle.std.specs.Prelude.{◌≡◌, ℕ, ◌+◌, ◌^◌, ◌<◌, ◌≤◌, List, [], ◌∷◌, ◌++◌, length, slice_get, Some}
+use mathlib.Core.List.{IsPrefix}
 use Rattle.atomic_table.specs.Seated.{TableId}
 use Rattle.hsm_auth.specs.declared.entry.Ask.{Ask}
 use Rattle.hsm_auth.specs.declared.entry.Granted.{Granted}
@@ -48,6 +49,15 @@ pub record Books (p q : PassView) (moment : ℕ) (ask : Ask) (granted : Granted)
 -- the entries of the booking pass, with their places: those from before and the new one
 abbrev pub OwnBooked : PassView → PassView → ℕ → Ask → Granted → ℕ → Type 0
 OwnBooked p q moment ask granted place = own (number p) q.seen ≡ own (number p) p.seen ++ (place, entry (number p) moment ask granted) ∷ []
+
+-- The pass made just these entries, in this order: its number and its kin stayed, and its history went on. The other entries that came are of numbers that its kin does not cover.
+pub record Makes (p q : PassView) (entries : List (ℕ × Entry)) : Type 0 where
+  pub desk : q.desk ≡ p.desk
+  pub kin : q.kin ≡ p.kin
+  pub begins : IsPrefix p.seen q.seen
+  pub own : own (number p) q.seen ≡ own (number p) p.seen ++ entries
+  pub apart : (k : ℕ) (e : Entry) → length p.seen ≤ k → slice_get q.seen k ≡ Some e → (j : ℕ) (pair : ℕ × ℕ) → slice_get p.kin j ≡ Some pair → Covers pair e.pass → e.pass ≡ number p
+  pub sound : Sound q
 
 -- the first pass of a desk: it has seen nothing, its number is 0 and its step 1
 abbrev pub first_pass : TableId → PassView

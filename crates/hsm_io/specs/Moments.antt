@@ -13,3 +13,8 @@ abbrev pub after_now : List ℕ → List ℕ
 after_now [] = []
 after_now (m ∷ []) = m ∷ []
 after_now (m ∷ n ∷ ms) = n ∷ ms
+
+-- the moments to come after so many calls
+abbrev pub after_calls : ℕ → List ℕ → List ℕ
+after_calls zero moments = moments
+after_calls (suc n) moments = after_calls n (after_now moments)

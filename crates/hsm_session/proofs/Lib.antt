@@ -19,3 +19,5 @@ pub mod ClearRuns
 pub mod OneRun
 pub mod CutPieces
 pub mod Limits
+pub mod Makings
+pub mod Talking

@@ -6,3 +6,5 @@ pub mod Lanes
 pub mod Reading
 pub mod Clear
 pub mod Cuts
+pub mod Connections
+pub mod Serving

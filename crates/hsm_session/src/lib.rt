@@ -7,8 +7,10 @@ mod lane;
 mod laws;
 mod lines;
 mod plans;
+mod replies;
 mod run;
 mod script;
+mod serving;
 mod text;
 mod whole;
 
@@ -17,4 +19,5 @@ pub use laws::{cut_pieces_join, legal_runs, one_run};
 pub use lines::{Line, read_script};
 pub use plans::{Kind, Plan, finish, prepare};
 pub use script::{ScriptEnd, ScriptFault, script_run};
+pub use serving::{ConnEnd, Report, Tools, least_message, serve_link};
 pub use whole::answer;

@@ -1,0 +1,22 @@
+use Rattle.std.proofs.Common.{◌≡◌, ◌≤◌, length}
+use Rattle.hsm_session.specs.Serving.{Going, Scene, scene}
+use Rattle.hsm_session.proofs.serving.answer_messages.Given as goal
+
+abbrev pub invariant-messages : goal.invariant-messages
+invariant-messages g l = record {
+  desk : l.tools.pass.desk ≡ l.initial.tools.pass.desk;
+  least : l.tools.frames.least ≡ l.initial.tools.frames.least;
+  counted : l.count.messages ≤ length l.tools.pass.seen;
+  kept : g.K.Link.faults l.link ≡ g.K.Link.faults l.initial.link;
+  lane : l.tools.lane ≡ l.initial.tools.lane;
+  going : (start : Scene)
+      → Going l.module l.kind start
+      (scene l.initial.tools.pass (g.C.Clock.last l.initial.tools.clock) (g.C.Clock.to_come l.initial.tools.clock) (g.K.Link.traffic l.initial.link))
+      l.initial.tools.frames.bytes l.initial.tools.out.items l.initial.count
+      → Going l.module l.kind start
+      (scene l.tools.pass (g.C.Clock.last l.tools.clock) (g.C.Clock.to_come l.tools.clock) (g.K.Link.traffic l.link))
+      l.tools.frames.bytes l.tools.out.items l.count;
+}
+
+abbrev pub decreases-messages : goal.decreases-messages
+decreases-messages g l = length l.tools.frames.bytes

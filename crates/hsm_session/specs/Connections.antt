@@ -1,0 +1,129 @@
+-- One connection: the messages that came over it, the entries that a pass made for them, and what was written.
+use Rattle.std.specs.Prelude.{◌≡◌, ◌⊎◌, ℕ, Bool, true, false, List, [], ◌∷◌, ◌++◌, length, slice_get, Option, Some, None}
+use Rattle.std.specs.List.{AllZip}
+use Rattle.hsm_auth.specs.declared.entry.Ask.{Ask}
+use Rattle.hsm_auth.specs.declared.entry.Ask.TheVariants.{Use, Authorise, Cancel, CancelAll, Look, Recent}
+use Rattle.hsm_auth.specs.declared.entry.Entry.{Entry}
+use Rattle.hsm_answers.specs.Messages.{Side, message_ask, message_answer}
+use Rattle.hsm_desk.specs.Passes.{PassView, Makes}
+use Rattle.hsm_frame.specs.Frames.{Frames, frame, StreamEnd, Whole, Part}
+use Rattle.hsm_frame.specs.Frames as stream
+use Rattle.hsm_io.specs.Connections.{Traffic}
+use Rattle.hsm_io.specs.Moments.{tick, after_calls}
+use Rattle.hsm_io.specs.Outside.{Rose}
+use Rattle.hsm_rows.specs.declared.settings.Module.{Module}
+use Rattle.hsm_session.specs.declared.plans.Kind.{Kind}
+use Rattle.hsm_session.specs.declared.plans.Kind.TheVariants.{Host}
+use Rattle.hsm_session.specs.declared.serving.ConnEnd.{ConnEnd}
+use Rattle.hsm_session.specs.declared.serving.ConnEnd.TheVariants.{Clean, Cut, Short, ReadFault, WriteFault}
+use Rattle.hsm_session.specs.declared.serving.Report.{Report}
+use Rattle.hsm_session.specs.Plans.{least_for, side_of}
+
+-- the entry is that of the message: it has its ask
+abbrev pub IsEntryFor : Module → Side → List ℕ → ℕ × Entry → Type 0
+IsEntryFor m side message placed = placed.1.ask ≡ message_ask m side message
+
+-- the framed answers of the messages, each at its own entry
+abbrev pub framed_answers : Module → Side → List (List ℕ) → List (ℕ × Entry) → List ℕ
+framed_answers m side [] entries = []
+framed_answers m side (message ∷ messages) [] = []
+framed_answers m side (message ∷ messages) (placed ∷ entries) =
+    frame (message_answer m side message placed.1.granted) ++ framed_answers m side messages entries
+
+-- whether an ask is one for an authorisation
+abbrev pub is_authorise : Ask → Bool
+is_authorise (Use needs words) = false
+is_authorise (Authorise activity minutes) = true
+is_authorise (Cancel activity) = false
+is_authorise CancelAll = false
+is_authorise Look = false
+is_authorise Recent = false
+
+-- none of the entries asks for an authorisation
+abbrev pub AuthoriseNothing : List (ℕ × Entry) → Type 0
+AuthoriseNothing entries = (i : ℕ) (placed : ℕ × Entry) → slice_get entries i ≡ Some placed → is_authorise placed.1.ask ≡ false
+
+-- each of the entries has the moment that the clock was to give at its call
+abbrev pub HaveMoments : List ℕ → List (ℕ × Entry) → Type 0
+HaveMoments moments entries = (i : ℕ) (placed : ℕ × Entry) → slice_get entries i ≡ Some placed → placed.1.moment ≡ tick moments i
+
+-- the moment of the last of the entries, and where there is none this moment
+abbrev pub last_moment : ℕ → List (ℕ × Entry) → ℕ
+last_moment moment [] = moment
+last_moment moment (placed ∷ entries) = last_moment placed.1.moment entries
+
+-- Each entry asked the clock once, in their order, and nothing else did.
+pub record AskClock (last_before last_after : ℕ) (before after : Option (List ℕ)) (entries : List (ℕ × Entry)) : Type 0 where
+  pub last : last_after ≡ last_moment last_before entries
+  pub told : (moments : List ℕ) → before ≡ Some moments → HaveMoments moments entries × (after ≡ Some (after_calls (length entries) moments))
+
+-- The bytes read are the messages framed, and end as the connection did. After a failed read they may end within a frame,
+-- and after a failed write more messages may follow.
+abbrev pub Hears : ℕ → List ℕ → List (List ℕ) → ConnEnd → Type 0
+Hears least heard messages Clean = Frames least heard messages Whole
+Hears least heard messages Cut = Frames least heard messages Part
+Hears least heard messages (Short n) = Frames least heard messages (stream.Short n)
+Hears least heard messages ReadFault = Frames least heard messages Whole ⊎ Frames least heard messages Part
+Hears least heard messages WriteFault = (later : List (List ℕ)) × (end : StreamEnd) × Frames least heard (messages ++ later) end
+
+-- All of the answers were written, and where a write failed a part from their front.
+abbrev pub Says : List ℕ → List ℕ → ConnEnd → Type 0
+Says said answers Clean = said ≡ answers
+Says said answers Cut = said ≡ answers
+Says said answers (Short n) = said ≡ answers
+Says said answers ReadFault = said ≡ answers
+Says said answers WriteFault = (rest : List ℕ) × (answers ≡ said ++ rest)
+
+-- a connection that was read to its end has nothing left to read
+abbrev pub Leaves : List ℕ → ConnEnd → Type 0
+Leaves left Clean = left ≡ []
+Leaves left Cut = left ≡ []
+Leaves left (Short n) = Unit {0}
+Leaves left ReadFault = Unit {0}
+Leaves left WriteFault = Unit {0}
+
+-- What passed over a connection, of which nothing was read or written before: the messages of the bytes read, with their
+-- answers at these entries.
+pub record Talks (m : Module) (kind : Kind) (before after : Traffic) (messages : List (List ℕ)) (entries : List (ℕ × Entry)) (end : ConnEnd) : Type 0 where
+  pub bytes : before.left ≡ after.was_read ++ after.left
+  pub hears : Hears (least_for m kind) after.was_read messages end
+  pub says : Says after.written (framed_answers m (side_of kind) messages entries) end
+  pub leaves : Leaves after.left end
+
+-- the place of the first of the entries
+abbrev pub first_place : List (ℕ × Entry) → Option ℕ
+first_place [] = None
+first_place (placed ∷ entries) = Some placed.0
+
+-- the place of the last of the entries, and where there is none this one
+abbrev pub last_place : Option ℕ → List (ℕ × Entry) → Option ℕ
+last_place place [] = place
+last_place place (placed ∷ entries) = last_place (Some placed.0) entries
+
+-- the report counts these entries, and names the places of the first and the last
+pub record Reports (report : Report) (entries : List (ℕ × Entry)) : Type 0 where
+  pub messages : report.messages ≡ length entries
+  pub first : report.first ≡ first_place entries
+  pub last : report.last ≡ last_place None entries
+
+-- What serving a connection did. The pass made one entry for each message, in their order, at the clock's moments; where the
+-- link tells what passed over it, these are the messages of the bytes read, and what was written are their answers at these
+-- entries. A host's messages authorise nothing.
+pub record Serves (m : Module) (kind : Kind) (before after : PassView) (last_before last_after : ℕ) (moments_before moments_after : Option (List ℕ)) (traffic_before traffic_after : Option Traffic) (report : Report) : Type 0 where
+  pub messages : List (List ℕ)
+  pub entries : List (ℕ × Entry)
+  pub made : Makes before after entries
+  pub each : AllZip (IsEntryFor m (side_of kind)) messages entries
+  pub clock : AskClock last_before last_after moments_before moments_after entries
+  pub reported : Reports report entries
+  pub hosts : kind ≡ Host → AuthoriseNothing entries
+  pub told : (s : Traffic) → traffic_before ≡ Some s → (t : Traffic) × (traffic_after ≡ Some t) × Talks m kind s t messages entries report.ended
+
+-- A connection ends with a fault only where the link's count rose, and by the kind of the call that failed last. With any
+-- other end no call failed.
+abbrev pub EndCause : ℕ → ℕ → Bool → ConnEnd → Type 0
+EndCause before after last_was_read Clean = after ≡ before
+EndCause before after last_was_read Cut = after ≡ before
+EndCause before after last_was_read (Short n) = after ≡ before
+EndCause before after last_was_read ReadFault = Rose before after × (last_was_read ≡ true)
+EndCause before after last_was_read WriteFault = Rose before after × (last_was_read ≡ false)

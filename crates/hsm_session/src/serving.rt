@@ -1,0 +1,304 @@
+//! One connection, from its first byte to its end.
+
+ghost use Rattle.std.specs.Prelude.{◌≡◌, ◌≤◌, ◌<◌, ◌+◌, ◌^◌, ◌++◌, List, ℕ, [], length, Option};
+ghost use Rattle.hsm_frame.specs.Frames.{frame};
+ghost use Rattle.hsm_io.specs.Connections.{IsSilent, Traffic};
+ghost use Rattle.hsm_session.specs.Connections.{EndCause, Serves};
+ghost use Rattle.hsm_session.specs.Lanes.{AreBytes, IsWaiting};
+ghost use Rattle.hsm_session.specs.Plans.{least_for};
+ghost use Rattle.hsm_session.specs.Serving.{Going, Over, Scene, StepCause, Steps, no_entry, one_more, scene};
+
+use crate::plans::{Kind, finish, prepare};
+use crate::replies::{gather, send};
+use arrayvec::ArrayVec;
+use hsm_answers::words_authorise;
+use hsm_desk::{Desk, Pass};
+use hsm_frame::laws::has_one_reading;
+use hsm_frame::{Frames, Next};
+use hsm_io::{Clock, Gate, Got, Link};
+use hsm_rows::Module;
+use hsm_text::Reply;
+use std::sync::Wait;
+
+/// What a lane serves its connections with. All its memory was taken when it was made.
+#[derive(Drop)]
+pub struct Tools<C, G> {
+    /// The seat at the desk with which the lane books.
+    pub pass: Pass,
+    pub clock: C,
+    pub gate: G,
+    /// The bytes that came and were not handed out.
+    pub frames: Frames,
+    pub reply: Reply,
+    /// The framed replies that were not written yet.
+    pub out: ArrayVec<u8, 65537>,
+    /// The number of the lane: 0 for the console, from 1 on for hosts.
+    pub lane: u32,
+}
+
+/// How a connection ended.
+#[derive(Clone, Copy, Debug, PartialEq, Eq)]
+pub enum ConnEnd {
+    /// The input ended behind a whole frame.
+    Clean,
+    /// The input ended within a frame.
+    Cut,
+    /// A frame named this length, which is below the least.
+    Short(u16),
+    /// A read failed.
+    ReadFault,
+    /// A write failed.
+    WriteFault,
+}
+
+/// What became of a connection.
+#[derive(Clone, Copy, Debug, PartialEq, Eq)]
+pub struct Report {
+    pub ended: ConnEnd,
+    /// The number of messages that were booked.
+    pub messages: u64,
+    /// The place in the history of the first of their entries.
+    pub first: Option<u64>,
+    /// The place of the last.
+    pub last: Option<u64>,
+}
+
+// How many messages were booked, and the places of the first and the last of their entries.
+#[derive(Clone, Copy)]
+struct Count {
+    messages: u64,
+    first: Option<u64>,
+    last: Option<u64>,
+}
+
+impl Count {
+    fn new() -> Count
+        ensures { result ≡ no_entry }
+    {
+        Count {
+            messages: 0,
+            first: None,
+            last: None,
+        }
+    }
+
+    // Counts one more entry.
+    fn add(&mut self, place: u64)
+        requires { self.old.messages < 2 ^ 63 }
+        ensures { self.new ≡ one_more self.old place }
+    {
+        self.messages += 1;
+        if self.first.is_none() {
+            self.first = Some(place);
+        }
+        self.last = Some(place);
+    }
+
+    fn report(self, ended: ConnEnd) -> Report
+        ensures { result ≡ record { ended = ended; messages = self.messages; first = self.first; last = self.last } }
+    {
+        Report {
+            ended,
+            messages: self.messages,
+            first: self.first,
+            last: self.last,
+        }
+    }
+}
+
+// Books the ask of a message, and puts its answer in the place of the reply.
+// A constant parameter that nothing reads: the toolchain has no plan for a value that holds a type with a lifetime in a function without parameters.
+fn book_message<R: Wait, C: Clock, G: Gate, const N: usize>(
+    rt: &R,
+    module: &Module,
+    desk: &Desk,
+    kind: Kind,
+    pass: &mut Pass,
+    clock: &mut C,
+    gate: &mut G,
+    lane: u32,
+    message: &[u8],
+    reply: &mut Reply,
+    count: &mut Count,
+)
+    requires desk { pass.old.desk ≡ desk.now }
+    requires least { least_for «module».now kind ≤ length message.now }
+    requires most { length message.now ≤ 65535 }
+    requires counted { count.old.messages ≤ length pass.old.seen }
+    ensures desk { pass.new.desk ≡ pass.old.desk }
+    ensures counted { count.new.messages ≤ length pass.new.seen }
+    ensures booked { (start : Scene) (traffic : Option Traffic) (rest out : List ℕ)
+        → Going «module».now kind start (scene pass.old (C.last clock.old) (C.to_come clock.old) traffic) (frame message.now ++ rest) out count.old
+        → Going «module».now kind start (scene pass.new (C.last clock.new) (C.to_come clock.new) traffic) rest (out ++ frame reply.new) count.new }
+{
+    words_authorise();
+    let plan = prepare(module, kind, message);
+    gate.before_book(lane, count.messages);
+    let booked = desk.book(rt, pass, clock, &plan.ask());
+    gate.after_book(lane, count.messages);
+    finish(module, &plan, &booked.granted, reply);
+    count.add(booked.place);
+}
+
+/// The least length of a message from there: a host's has a header and a command code, the console's has one byte.
+pub fn least_message(module: &Module, kind: Kind) -> u16
+    ensures { result ≡ least_for «module».now kind }
+{
+    match kind {
+        Kind::Host => u16::from(module.header) + 2,
+        Kind::Console => 1,
+    }
+}
+
+// The end at a frame of this length, which is below the least.
+fn end_short(module: &Module, kind: Kind, length: u64) -> ConnEnd
+    requires { length < least_for «module».now kind }
+    ensures { result ≡ ConnEnd.Short length }
+{
+    let least = least_message(module, kind);
+    prove!(length < u64::from(least));
+    ConnEnd::Short(length as u16)
+}
+
+// Books and answers the whole messages that the frames hold, and gathers their replies.
+fn answer_messages<R: Wait, K: Link, C: Clock, G: Gate>(
+    rt: &R,
+    module: &Module,
+    desk: &Desk,
+    kind: Kind,
+    tools: &mut Tools<C, G>,
+    link: &mut K,
+    count: &mut Count,
+) -> Option<ConnEnd>
+    requires desk { tools.old.pass.desk ≡ desk.now }
+    requires least { tools.old.frames.least ≡ least_for «module».now kind }
+    requires counted { count.old.messages ≤ length tools.old.pass.seen }
+    ensures desk { tools.new.pass.desk ≡ tools.old.pass.desk }
+    ensures counted { count.new.messages ≤ length tools.new.pass.seen }
+    ensures steps { Steps «module».now kind
+        (scene tools.old.pass (C.last tools.old.clock) (C.to_come tools.old.clock) (K.traffic link.old))
+        (scene tools.new.pass (C.last tools.new.clock) (C.to_come tools.new.clock) (K.traffic link.new))
+        tools.old.frames.bytes tools.new.frames.bytes tools.old.out.items tools.new.out.items count.old count.new result }
+    ensures cause { StepCause (K.faults link.old) (K.faults link.new) (K.last_was_read link.new) result }
+    ensures lane { tools.new.lane ≡ tools.old.lane }
+    ensures frames { tools.new.frames.least ≡ tools.old.frames.least }
+{
+    has_one_reading();
+    'messages: loop {
+        match tools.frames.next() {
+            Next::Message(message) => {
+                book_message::<R, C, G, 0>(
+                    rt,
+                    module,
+                    desk,
+                    kind,
+                    &mut tools.pass,
+                    &mut tools.clock,
+                    &mut tools.gate,
+                    tools.lane,
+                    message,
+                    &mut tools.reply,
+                    count,
+                );
+                match gather(tools.reply.bytes(), &mut tools.out, link) {
+                    Ok(()) => {}
+                    Err(_) => return Some(ConnEnd::WriteFault),
+                }
+            }
+            Next::Short(length) => {
+                return match send(&mut tools.out, link) {
+                    Ok(()) => Some(end_short(module, kind, length)),
+                    Err(_) => Some(ConnEnd::WriteFault),
+                };
+            }
+            Next::NotYet => return None,
+        }
+    }
+}
+
+// Tells that what a slice holds are bytes. It does nothing.
+fn tell_bytes(piece: &[u8])
+    ensures { AreBytes piece.now }
+{
+    let _ = piece;
+}
+
+// Writes what is gathered, reads a piece, and answers the messages that it ends.
+fn serve_piece<R: Wait, K: Link, C: Clock, G: Gate>(
+    rt: &R,
+    module: &Module,
+    desk: &Desk,
+    kind: Kind,
+    tools: &mut Tools<C, G>,
+    link: &mut K,
+    count: &mut Count,
+) -> Option<ConnEnd>
+    requires desk { tools.old.pass.desk ≡ desk.now }
+    requires least { tools.old.frames.least ≡ least_for «module».now kind }
+    requires waits { IsWaiting (least_for «module».now kind) tools.old.frames.bytes }
+    requires counted { count.old.messages ≤ length tools.old.pass.seen }
+    ensures desk { tools.new.pass.desk ≡ tools.old.pass.desk }
+    ensures counted { count.new.messages ≤ length tools.new.pass.seen }
+    ensures steps { Steps «module».now kind
+        (scene tools.old.pass (C.last tools.old.clock) (C.to_come tools.old.clock) (K.traffic link.old))
+        (scene tools.new.pass (C.last tools.new.clock) (C.to_come tools.new.clock) (K.traffic link.new))
+        tools.old.frames.bytes tools.new.frames.bytes tools.old.out.items tools.new.out.items count.old count.new result }
+    ensures cause { StepCause (K.faults link.old) (K.faults link.new) (K.last_was_read link.new) result }
+    ensures lane { tools.new.lane ≡ tools.old.lane }
+    ensures frames { tools.new.frames.least ≡ tools.old.frames.least }
+{
+    has_one_reading();
+    match send(&mut tools.out, link) {
+        Ok(()) => {}
+        Err(_) => return Some(ConnEnd::WriteFault),
+    }
+    let mut room = [0; 4096];
+    let size = (65_537 - tools.frames.held()).min(4096);
+    match link.read(&mut room[..size]) {
+        Got::Bytes(read) => {
+            let piece = &room[..read];
+            tell_bytes(piece);
+            tools.frames.feed(piece);
+            answer_messages(rt, module, desk, kind, tools, link, count)
+        }
+        Got::End => {
+            if tools.frames.held() == 0 {
+                return Some(ConnEnd::Clean);
+            }
+            Some(ConnEnd::Cut)
+        }
+        Got::Failed => Some(ConnEnd::ReadFault),
+    }
+}
+
+/// Serves one connection to its end: each message is prepared, booked and answered. It takes no memory, and may wait for its
+/// turn at the desk. Replies are gathered, and written before a reply that no longer fits, before each read, and at the end.
+pub fn serve_link<R: Wait, K: Link, C: Clock, G: Gate>(
+    rt: &R,
+    module: &Module,
+    desk: &Desk,
+    kind: Kind,
+    tools: &mut Tools<C, G>,
+    link: &mut K,
+) -> Report
+    requires desk { tools.old.pass.desk ≡ desk.now }
+    requires least { tools.old.frames.least ≡ least_for «module».now kind }
+    // Where the link tells, nothing of it was read or written.
+    requires silent { IsSilent (K.traffic link.old) }
+    ensures serves { Serves «module».now kind tools.old.pass tools.new.pass (C.last tools.old.clock) (C.last tools.new.clock)
+        (C.to_come tools.old.clock) (C.to_come tools.new.clock) (K.traffic link.old) (K.traffic link.new) result }
+    ensures cause { EndCause (K.faults link.old) (K.faults link.new) (K.last_was_read link.new) result.ended }
+    ensures lane { tools.new.lane ≡ tools.old.lane }
+    ensures frames { tools.new.frames.least ≡ tools.old.frames.least }
+{
+    let mut count = Count::new();
+    tools.pass.facts();
+    tools.frames.reset();
+    tools.out.clear();
+    'pieces: for _ in rt.forever() {
+        if let Some(ended) = serve_piece(rt, module, desk, kind, tools, link, &mut count) {
+            return count.report(ended);
+        }
+    }
+    unreachable!()
+}
