@@ -60,7 +60,7 @@ fn pairs_of(set: Set) -> [[u8; 16]; 20] {
 }
 
 // The module of a set, with so many hosts and the zero seed.
-fn module_of(set: Set, hosts: u8) -> Option<Module> {
+pub(crate) fn module_of(set: Set, hosts: u8) -> Option<Module> {
     Some(Module {
         lmk: LmkSet::of(&pairs_of(set)).ok()?,
         permits: Permits::table(),
