@@ -60,7 +60,7 @@ fn config_text(alloc: Global, set: Set, hosts: u8) -> Result<Vec<u8>, AllocError
 }
 
 // The module of a set, with so many hosts and the zero seed.
-fn module_of(alloc: Global, set: Set, hosts: u8) -> Result<Module, Fail> {
+pub(crate) fn module_of(alloc: Global, set: Set, hosts: u8) -> Result<Module, Fail> {
     match Config::read(alloc, &config_text(alloc, set, hosts)?) {
         Ok(config) => Ok(config.module([0; 32])),
         Err(_) => Err("configuration")?,

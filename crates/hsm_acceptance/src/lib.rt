@@ -4,6 +4,8 @@
 #[cfg(test)]
 mod cards;
 #[cfg(test)]
+mod connections;
+#[cfg(test)]
 mod consoles;
 #[cfg(test)]
 mod diagnostics;
