@@ -1,0 +1,4 @@
+pub mod Sent
+pub mod Halves
+pub mod Joining
+pub mod Laning

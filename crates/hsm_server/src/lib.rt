@@ -1,0 +1,9 @@
+//! Lanes on threads: each lane serves the connections of its door one after another, and the lanes run beside one another.
+#![tactic(auto)]
+
+mod lane;
+mod run;
+mod setup;
+
+pub use lane::{Lane, LaneEnd};
+pub use run::run_lanes;

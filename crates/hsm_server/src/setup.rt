@@ -1,0 +1,92 @@
+//! How a lane is made, and how it is taken apart.
+ghost use Rattle.std.specs.Prelude.{◌≡◌, [], false, IfOk, IfErr, Some};
+ghost use Rattle.hsm_io.specs.Connections.{Doorway};
+ghost use Rattle.hsm_server.specs.Lanes.{lane_state};
+
+use crate::lane::{Lane, LaneEnd};
+use arrayvec::ArrayVec;
+use hsm_desk::Pass;
+use hsm_frame::Frames;
+use hsm_io::{Clock, Door, Gate};
+use hsm_session::Tools;
+use hsm_text::Reply;
+use std::alloc::Global;
+
+impl<D: Door + Send + Drop, C: Clock + Send + Drop, G: Gate + Send + Drop> Lane<D, C, G> {
+    /// A lane that served no connection yet. All its memory is taken here: the frames, and places for as many reports as
+    /// it accepts connections. Want of memory is the one refusal. It hands the pass back, and drops the rest.
+    pub fn new(
+        alloc: Global,
+        number: u32,
+        least: u16,
+        accept: u16,
+        pass: Pass,
+        door: D,
+        clock: C,
+        gate: G,
+    ) -> Result<Lane<D, C, G>, Pass>
+        requires none_out { D.is_out door ≡ false }
+        // Where the door tells, no connection was taken back.
+        requires none_taken { (d : Doorway) → D.doorway door ≡ Some d → d.taken ≡ [] }
+        ensures made { IfOk result (λ lane. lane_state D.doorway D.faults D.broken D.is_out C.last C.to_come lane ≡ record {
+          number = number;
+          accept = accept;
+          least = least;
+          pass = pass;
+          last = C.last clock;
+          moments = C.to_come clock;
+          doorway = D.doorway door;
+          faults = D.faults door;
+          broken = D.broken door;
+          is_out = false;
+          reports = [];
+          door_fault = false;
+        }) }
+        ensures named { IfOk result (λ lane. lane.tools.lane ≡ number) }
+        ensures handed_back { IfErr result (λ given. given ≡ pass) }
+    {
+        let Ok(frames) = Frames::open(alloc, least) else {
+            return Err(pass);
+        };
+        let Ok(reports) = Vec::with_capacity(alloc, usize::from(accept)) else {
+            return Err(pass);
+        };
+        Ok(Lane {
+            number,
+            accept,
+            tools: Tools {
+                pass,
+                clock,
+                gate,
+                frames,
+                reply: Reply::new(),
+                out: ArrayVec::new(),
+                lane: number,
+            },
+            door,
+            reports,
+            door_fault: false,
+        })
+    }
+
+    /// Hands back the pass and what became of the lane. The clock and the gate are dropped.
+    pub fn end(self) -> (Pass, LaneEnd<D>)
+        ensures { result ≡ (self.tools.pass, record { door = self.door; reports = self.reports; door_fault = self.door_fault }) }
+    {
+        let Lane {
+            tools,
+            door,
+            reports,
+            door_fault,
+            ..
+        } = self;
+        (
+            tools.pass,
+            LaneEnd {
+                door,
+                reports,
+                door_fault,
+            },
+        )
+    }
+}
