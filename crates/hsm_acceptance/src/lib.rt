@@ -14,6 +14,8 @@ mod keys;
 #[cfg(test)]
 mod laboratory;
 #[cfg(test)]
+mod lanes;
+#[cfg(test)]
 mod macs;
 #[cfg(test)]
 mod pins;

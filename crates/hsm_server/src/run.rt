@@ -103,10 +103,11 @@ where
     D: Door + Send,
     C: Clock + Send,
     G: Gate + Send,
-    requires { All (λ lane. IsReady «module».now desk.now (lane_state D.doorway D.faults D.broken D.is_out C.last C.to_come lane)) lanes.old }
-    ensures { EachLane (λ before after. Ran «module».now
+    requires ready { All (λ lane. IsReady «module».now desk.now (lane_state D.doorway D.faults D.broken D.is_out C.last C.to_come lane)) lanes.old }
+    ensures ran { EachLane (λ before after. Ran «module».now
         (lane_state D.doorway D.faults D.broken D.is_out C.last C.to_come before)
         (lane_state D.doorway D.faults D.broken D.is_out C.last C.to_come after)) lanes.old lanes.new }
+    ensures desk { All (λ lane. lane.tools.pass.desk ≡ desk.now) lanes.new }
 {
     run_by_halves(rt, module, desk, lanes)
 }
