@@ -192,22 +192,17 @@ impl<'a> Gate for Meeting<'a> {
     }
 }
 
-// Whether each of two lanes, held behind its first booking, sees the other's.
-fn two_lanes_meet(
+// Runs two lanes with these gates, each over one connection.
+fn run_with_gates<'a>(
     rt: &(impl Abort + Alloc<A = Global> + Threads + Wait + Sync),
-) -> Result<(bool, bool), Fail> {
+    first: Meeting<'a>,
+    second: Meeting<'a>,
+) -> Result<(), Fail> {
     let alloc = rt.alloc();
     let module = module_of(alloc, Set::E1, 2)?;
     let (desk, mut one) = Desk::new(alloc, Ledger::new(alloc)?)?;
     let two = desk.split(&mut one);
-    let (first, second) = (AtomicBool::new(false), AtomicBool::new(false));
-    let (first_met, second_met) = (AtomicBool::new(false), AtomicBool::new(false));
     let mut lanes = Vec::new(alloc);
-    let gate = Meeting {
-        here: &first,
-        there: &second,
-        met: &first_met,
-    };
     let door = door_of(alloc, &[ASKED], &[], &[])?;
     add(
         alloc,
@@ -219,13 +214,8 @@ fn two_lanes_meet(
         one,
         door,
         clock_of(&[7, 8]),
-        gate,
+        first,
     )?;
-    let gate = Meeting {
-        here: &second,
-        there: &first,
-        met: &second_met,
-    };
     let door = door_of(alloc, &[ASKED], &[], &[])?;
     add(
         alloc,
@@ -237,18 +227,28 @@ fn two_lanes_meet(
         two,
         door,
         clock_of(&[7, 8]),
-        gate,
+        second,
     )?;
     run_all(rt, &module, &desk, &mut lanes);
-    Ok((
-        first_met.load(Ordering::SeqCst),
-        second_met.load(Ordering::SeqCst),
-    ))
+    Ok(())
 }
 
 #[test]
 fn lanes_run_beside_each_other(rt: HostRuntime) -> Result<(), Fail> {
-    assert_eq!(rt; two_lanes_meet(&rt)?, (true, true));
+    let booked = (AtomicBool::new(false), AtomicBool::new(false));
+    let met = (AtomicBool::new(false), AtomicBool::new(false));
+    let first = Meeting {
+        here: &booked.0,
+        there: &booked.1,
+        met: &met.0,
+    };
+    let second = Meeting {
+        here: &booked.1,
+        there: &booked.0,
+        met: &met.1,
+    };
+    run_with_gates(&rt, first, second)?;
+    assert!(rt; met.0.load(Ordering::SeqCst) && met.1.load(Ordering::SeqCst));
     Ok(())
 }
 
