@@ -140,49 +140,19 @@ fn served_and_refused(rt: HostRuntime) -> Result<(), Fail> {
 fn configurations(rt: HostRuntime) -> Result<(), Fail> {
     let alloc = rt.alloc();
     let whole = settings(alloc)?;
+    let check: &[&str] = &["check", "c"];
+    let script: &[&str] = &["script", "c", "f"];
+    let no_script: &[&str] = &["script", "c", "g"];
+    let not_toml = Outcome::ConfigRefused(ConfigFault::NotToml);
+    let rule_1 = Outcome::ConfigRefused(ConfigFault::Rule(1));
+    let rule_3 = Outcome::ConfigRefused(ConfigFault::Rule(3));
     let cases: [(&[u8], &[&str], u8, Outcome, &[u8]); 6] = [
-        (
-            whole.as_bytes(),
-            &["check", "c"],
-            0,
-            Outcome::Served,
-            b"OK 2\n",
-        ),
-        (
-            b"[",
-            &["check", "c"],
-            4,
-            Outcome::ConfigRefused(ConfigFault::NotToml),
-            b"",
-        ),
-        (
-            b"version = 1\nheader = 256\n",
-            &["check", "c"],
-            4,
-            Outcome::ConfigRefused(ConfigFault::Rule(3)),
-            b"",
-        ),
-        (
-            b"[",
-            &["script", "c", "g"],
-            4,
-            Outcome::ConfigRefused(ConfigFault::NotToml),
-            b"",
-        ),
-        (
-            b"extra = 1",
-            &["script", "c", "f"],
-            4,
-            Outcome::ConfigRefused(ConfigFault::Rule(1)),
-            b"",
-        ),
-        (
-            whole.as_bytes(),
-            &["script", "c", "f"],
-            4,
-            Outcome::ScriptRefused(1),
-            b"",
-        ),
+        (whole.as_bytes(), check, 0, Outcome::Served, b"OK 2\n"),
+        (b"[", check, 4, not_toml, b""),
+        (b"version = 1\nheader = 256\n", check, 4, rule_3, b""),
+        (b"[", no_script, 4, not_toml, b""),
+        (b"extra = 1", script, 4, rule_1, b""),
+        (whole.as_bytes(), script, 4, Outcome::ScriptRefused(1), b""),
     ];
     for (config, texts, status, outcome, output) in cases {
         let mut bench = bench_of(
@@ -237,47 +207,25 @@ fn explains(rt: HostRuntime) -> Result<(), Fail> {
 fn faults_of_the_outside(rt: HostRuntime) -> Result<(), Fail> {
     let alloc = rt.alloc();
     let script: &[&str] = &["script", "c", "f"];
+    let no_script: &[&str] = &["script", "c", "g"];
+    let no_config: &[&str] = &["script", "b", "g"];
+    let check: &[&str] = &["check", "c"];
+    let check_none: &[&str] = &["check", "b"];
+    let none: [&[u32]; 2] = [&[], &[]];
+    let file = Outcome::FileFault;
     // The words, the reads of the configuration and of the script, openings and writes that fail, the outcome, and the bad name.
     let cases: [(&[&str], [&[u32]; 2], &[u32], &[u32], Outcome, &[u8]); 11] = [
-        (
-            &["script", "b", "g"],
-            [&[], &[]],
-            &[],
-            &[],
-            Outcome::FileFault,
-            b"b",
-        ),
-        (
-            &["script", "c", "g"],
-            [&[], &[]],
-            &[],
-            &[],
-            Outcome::FileFault,
-            b"g",
-        ),
-        (script, [&[0], &[]], &[], &[], Outcome::FileFault, b"c"),
-        (script, [&[1], &[0]], &[], &[], Outcome::FileFault, b"c"),
-        (script, [&[], &[0]], &[], &[], Outcome::FileFault, b"f"),
-        (script, [&[], &[1]], &[], &[], Outcome::FileFault, b"f"),
-        (script, [&[], &[]], &[0], &[], Outcome::FileFault, b"c"),
-        (script, [&[], &[]], &[1], &[], Outcome::FileFault, b"f"),
-        (
-            &["check", "b"],
-            [&[], &[]],
-            &[],
-            &[],
-            Outcome::FileFault,
-            b"b",
-        ),
-        (
-            &["check", "c"],
-            [&[], &[]],
-            &[],
-            &[0],
-            Outcome::OutFault,
-            b"",
-        ),
-        (script, [&[], &[]], &[], &[0], Outcome::OutFault, b""),
+        (no_config, none, &[], &[], file, b"b"),
+        (no_script, none, &[], &[], file, b"g"),
+        (script, [&[0], &[]], &[], &[], file, b"c"),
+        (script, [&[1], &[0]], &[], &[], file, b"c"),
+        (script, [&[], &[0]], &[], &[], file, b"f"),
+        (script, [&[], &[1]], &[], &[], file, b"f"),
+        (script, none, &[0], &[], file, b"c"),
+        (script, none, &[1], &[], file, b"f"),
+        (check_none, none, &[], &[], file, b"b"),
+        (check, none, &[], &[0], Outcome::OutFault, b""),
+        (script, none, &[], &[0], Outcome::OutFault, b""),
     ];
     for (texts, bad_reads, bad_files, bad_writes, outcome, bad_name) in cases {
         let config = settings(alloc)?;
