@@ -1,0 +1,7 @@
+pub mod Files
+pub mod Settings
+pub mod Words
+pub mod Runs
+pub mod Parts
+pub mod Headline
+pub mod Serving

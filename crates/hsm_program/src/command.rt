@@ -1,0 +1,127 @@
+//! The words of the command line.
+
+ghost use Rattle.std.specs.Prelude.{◌≡◌, IfSome};
+ghost use Rattle.std.specs.Option.{option_map};
+ghost use Rattle.hsm_rows.specs.Table.{IsHostRow, host_rows, row_with, shape_of, shown_shape};
+ghost use Rattle.hsm_program.specs.Words.{ReadsWords, ReadsRest, asked_check, asked_code, asked_script, asked_serve, is_file_word, names};
+
+use hsm_rows::{Row, row_of};
+
+/// What the words ask for. A place indexes the words.
+#[derive(Clone, Copy)]
+pub enum Command {
+    /// Serves the lanes of a configuration.
+    Serve { config: usize },
+    /// Runs the script of a file under a configuration.
+    Script { config: usize, file: usize },
+    /// Checks a configuration.
+    Check { config: usize },
+    /// Prints the row of a host command.
+    Explain { row: &'static Row },
+}
+
+/// The words are no command.
+#[derive(Clone, Copy, Debug, PartialEq, Eq)]
+pub enum WordsFault {
+    /// The place of the first word that no command allows, counted from 0, or the number of words where one is missing.
+    Usage(usize),
+}
+
+/// The command of the words: `serve CONFIG`, `script CONFIG FILE`, `check CONFIG` or `explain CODE`.
+pub fn read_words(words: &[String]) -> Result<Command, WordsFault>
+    ensures { ReadsWords (names words.now) result }
+{
+    let [first, rest @ ..] = words else {
+        return Err(WordsFault::Usage(0));
+    };
+    match first.as_bytes() {
+        b"serve" => read_serve(rest),
+        b"script" => read_script(rest),
+        b"check" => read_check(rest),
+        b"explain" => read_code(rest),
+        _ => Err(WordsFault::Usage(0)),
+    }
+}
+
+fn read_script(words: &[String]) -> Result<Command, WordsFault>
+    ensures { ReadsRest asked_script (names words.now) result }
+{
+    let [config, rest @ ..] = words else {
+        return Err(WordsFault::Usage(1));
+    };
+    if !is_file_word(config.as_bytes()) {
+        return Err(WordsFault::Usage(1));
+    }
+    let [file, rest @ ..] = rest else {
+        return Err(WordsFault::Usage(2));
+    };
+    if !is_file_word(file.as_bytes()) {
+        return Err(WordsFault::Usage(2));
+    }
+    if !rest.is_empty() {
+        return Err(WordsFault::Usage(3));
+    }
+    Ok(Command::Script { config: 1, file: 2 })
+}
+
+fn read_serve(words: &[String]) -> Result<Command, WordsFault>
+    ensures { ReadsRest asked_serve (names words.now) result }
+{
+    let [config, rest @ ..] = words else {
+        return Err(WordsFault::Usage(1));
+    };
+    if !is_file_word(config.as_bytes()) {
+        return Err(WordsFault::Usage(1));
+    }
+    if !rest.is_empty() {
+        return Err(WordsFault::Usage(2));
+    }
+    Ok(Command::Serve { config: 1 })
+}
+
+fn read_check(words: &[String]) -> Result<Command, WordsFault>
+    ensures { ReadsRest asked_check (names words.now) result }
+{
+    let [config, rest @ ..] = words else {
+        return Err(WordsFault::Usage(1));
+    };
+    if !is_file_word(config.as_bytes()) {
+        return Err(WordsFault::Usage(1));
+    }
+    if !rest.is_empty() {
+        return Err(WordsFault::Usage(2));
+    }
+    Ok(Command::Check { config: 1 })
+}
+
+fn read_code(words: &[String]) -> Result<Command, WordsFault>
+    ensures { ReadsRest asked_code (names words.now) result }
+{
+    let [word, rest @ ..] = words else {
+        return Err(WordsFault::Usage(1));
+    };
+    let Some(row) = host_row(word.as_bytes()) else {
+        return Err(WordsFault::Usage(1));
+    };
+    if !rest.is_empty() {
+        return Err(WordsFault::Usage(2));
+    }
+    Ok(Command::Explain { row })
+}
+
+// The host row of a word. Each host code has two bytes.
+fn host_row(word: &[u8]) -> Option<&'static Row>
+    ensures row { option_map shown_shape result ≡ row_with word.now host_rows }
+    ensures host { IfSome result (λ r. IsHostRow (shape_of r.now)) }
+{
+    match <&[u8; 2]>::try_from(word) {
+        Ok(code) => row_of(code),
+        Err(_) => None,
+    }
+}
+
+fn is_file_word(word: &[u8]) -> bool
+    ensures { result ≡ is_file_word word.now }
+{
+    !word.is_empty() && word[0] != b'-'
+}

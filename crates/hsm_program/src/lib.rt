@@ -1,0 +1,20 @@
+//! The program's commands over the outside as traits: a script, a check of a configuration, a row of the table, and lanes
+//! served on threads.
+#![tactic(auto)]
+
+mod command;
+mod doors;
+mod ending;
+mod lanes;
+mod local;
+mod outcome;
+mod passes;
+mod reading;
+mod run;
+mod serve;
+
+pub use command::{Command, WordsFault, read_words};
+pub use local::hsm_local;
+pub use outcome::Outcome;
+pub use reading::{FILE_LIMIT, ReadingFault, read_all};
+pub use run::{Ended, hsm_run};
