@@ -9,3 +9,4 @@ pub mod Moments
 pub mod MemoryForms
 pub mod Places
 pub mod MemoryLinks
+pub mod Gates

@@ -15,6 +15,7 @@ use Rattle.hsm_session.specs.declared.serving.Report.{Report}
 use Rattle.hsm_session.specs.Connections.{IsEntryFor, AskClock, AuthoriseNothing, Reports, Talks}
 use Rattle.hsm_session.specs.Plans.{least_for, side_of}
 use Rattle.hsm_server.specs.declared.lane.Lane.{Lane}
+use Rattle.hsm_server.specs.declared.lane.LaneEnd.{LaneEnd}
 
 -- A lane: its number, how many connections it serves at most, the least length of its messages, its pass, the moment that
 -- its clock gave last and those to come, what its door tells, how often the door failed, how many connections that the door
@@ -149,3 +150,22 @@ pub record Ran (m : Module) (before after : LaneState) : Type 0 where
 -- R holds of each lane before and after.
 abbrev pub EachLane : {L : Type 0} → (L → L → Type 0) → List L → List L → Type 0
 EachLane {L} R before after = (k : ℕ) (d : L) → k < length before → R (slice_index_or before k d) (slice_index_or after k d)
+
+-- what a lane shows at its end: its reports, whether the door failed, what the door tells, how often it failed, and how many
+-- connections that it took back had failed
+pub record LaneView : Type 0 where
+  pub reports : List Report
+  pub door_fault : Bool
+  pub doorway : Option Doorway
+  pub faults : ℕ
+  pub broken : ℕ
+
+-- the end of a lane, by what its door tells
+abbrev pub lane_view : {D : Type 0} → (D → Option Doorway) → (D → ℕ) → (D → ℕ) → LaneEnd D → LaneView
+lane_view doorway faults broken end = record {
+  reports = end.reports.items;
+  door_fault = end.door_fault;
+  doorway = doorway end.door;
+  faults = faults end.door;
+  broken = broken end.door;
+}

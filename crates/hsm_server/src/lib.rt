@@ -6,4 +6,4 @@ mod run;
 mod setup;
 
 pub use lane::{Lane, LaneEnd};
-pub use run::run_lanes;
+pub use run::{kind_for, run_lanes};

@@ -24,8 +24,8 @@ trait Work {
         ensures { done «module».now self.old self.new };
 }
 
-// The side of the lane of this number.
-fn kind_for(number: u32) -> Kind
+/// The side of the lane of this number: 0 is the console's, every other a host's.
+pub fn kind_for(number: u32) -> Kind
     ensures { result ≡ kind_of number }
 {
     if number == 0 {
