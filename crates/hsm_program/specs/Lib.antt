@@ -3,5 +3,6 @@ pub mod Settings
 pub mod Words
 pub mod Runs
 pub mod Parts
+pub mod Lanes
 pub mod Headline
 pub mod Serving

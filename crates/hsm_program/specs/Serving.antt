@@ -59,12 +59,11 @@ pub record HasCauses (to_come : Option (List (List ℕ))) (lane : LaneView) : Ty
   pub door : HasCause 0 lane.faults lane.door_fault
   pub named : WhereTold to_come lane (λ came door. AllZip IsNamed lane.reports door.taken)
 
--- Lanes were served under a configuration: a seed was given and each port asked, in their order; the theorem on serving holds; and each fault has its cause.
+-- Lanes were served under a configuration with the seed that the bench gave last: each port was asked, in their order; the theorem on serving holds; and
+-- each fault has its cause.
 pub record ServedBy (doors : DoorSide) (moments : Option (List ℕ)) (seeds_after : SeedSide) (doors_after : DoorSide) (lanes : List LaneView) (pass : PassView) (config : Config) : Type 0 where
-  pub seed : List ℕ
-  pub given : seeds_after.last_seed ≡ Some seed
   pub asked : doors_after.asked ≡ ports_of config
-  pub headline : Headline (record { config = config; seed = seed; to_come = doors.connections; moments = moments }) lanes pass
+  pub headline : Headline (record { config = config; seed = seeds_after.last_seed; to_come = doors.connections; moments = moments }) lanes pass
   pub causes : (number port : ℕ) (lane : LaneView) → slice_get (ports_of config) number ≡ Some port → slice_get lanes number ≡ Some lane
       → HasCauses (doors.connections port) lane
 

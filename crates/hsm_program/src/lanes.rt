@@ -1,48 +1,114 @@
-//! The lanes before they are served, and after.
+//! The lanes before they are served.
 
-ghost use Rattle.std.specs.Prelude.{◌≡◌, ◌≤◌, ◌<◌, ◌++◌, [], All, IfOk, IfSome, length, map, Option, Some};
-ghost use Rattle.std.specs.Vec.{vec_capacity};
+ghost use Rattle.std.specs.Prelude.{◌≡◌, ◌<◌, ◌++◌, ◌∷◌, [], true, IfOk, IfErr, length, map};
+ghost use Rattle.hsm_config.specs.Rules.{all_different};
+ghost use Rattle.hsm_desk.specs.Passes.{first_pass};
+ghost use Rattle.hsm_io.specs.Sides.{IsNotAmong};
 ghost use Rattle.hsm_rows.specs.declared.settings.Module.{Module};
 ghost use Rattle.hsm_server.specs.Lanes.{lane_state};
-ghost use Rattle.hsm_program.specs.Seats.{AreSeats, AreJoined};
-ghost use Rattle.hsm_program.specs.Doors.{AreFresh, AreNew, door_view};
+ghost use Rattle.hsm_program.specs.Lanes.{AreLanes, AreRefused, IsNewLane, IsRefused, OthersStay};
+ghost use Rattle.hsm_program.specs.Settings.{ports_of};
 
+use arrayvec::ArrayVec;
+use hsm_config::Config;
 use hsm_desk::{Desk, Pass};
-use hsm_io::{Bench, Clock, Door, Gate};
+use hsm_io::Bench;
 use hsm_rows::Module;
-use hsm_server::{Lane, LaneEnd, kind_for};
+use hsm_server::{Lane, kind_for};
 use hsm_session::least_message;
-use std::alloc::{AllocError, Global};
+use std::alloc::Global;
 
-/// The lanes of these doors and passes, each with a clock and a gate of the bench.
-pub(crate) fn make_lanes<B: Bench>(
+/// Why there are no lanes.
+pub(crate) enum LanesFault {
+    /// Want of memory.
+    Memory,
+    /// The door of this lane could not be opened.
+    Door(u64),
+}
+
+// The ports of the lanes: the console's, and then those of the hosts.
+fn ports_of(config: &Config) -> ArrayVec<u16, 65>
+    ensures { result.items ≡ ports_of config.now }
+{
+    let mut ports = ArrayVec::new();
+    ports.push(config.console_port);
+    for port in &config.host_ports {
+        ports.push(*port);
+    }
+    ports
+}
+
+// The lane of this number over the door of its port, with a clock and a gate of the bench.
+fn open_lane<B: Bench>(
     alloc: Global,
     module: &Module,
     accept: u16,
-    doors: Vec<B::Door>,
-    passes: Vec<Pass>,
+    number: usize,
+    port: u16,
+    pass: Pass,
     bench: &mut B,
-) -> Result<Vec<Lane<B::Door, B::Clock, B::Gate>>, AllocError>
-    requires same { length passes.items ≡ length doors.items }
-    requires few { length doors.items ≤ 65 }
-    requires fresh { All (AreFresh B.Door.doorway B.Door.is_out) doors.items }
-    ensures made { IfOk result (λ lanes. AreNew «module».now accept (B.moments bench.old)
-        (map (door_view B.Door.doorway B.Door.is_out B.Door.faults B.Door.broken) doors.items) passes.items
-        (map (lane_state B.Door.doorway B.Door.faults B.Door.broken B.Door.is_out B.Clock.last B.Clock.to_come B.Gate.calls) lanes.items)) }
+) -> Result<Lane<B::Door, B::Clock, B::Gate>, LanesFault>
+    requires number { number < 65 }
+    requires new { IsNotAmong port (B.doors bench.old).asked }
+    requires few { length (B.doors bench.old).asked < 65 }
+    ensures opened { IfOk result (λ lane. IsNewLane «module».now accept (B.moments bench.old) ((B.doors bench.old).connections port) number pass
+        (lane_state B.Door.doorway B.Door.faults B.Door.broken B.Door.is_out B.Clock.last B.Clock.to_come B.Gate.calls lane)) }
+    ensures others { IfOk result (λ lane. OthersStay port (B.doors bench.old) (B.doors bench.new)) }
+    ensures asked { (B.doors bench.new).asked ≡ (B.doors bench.old).asked ++ port ∷ [] }
+    ensures refused { IfErr result (λ fault. IsRefused number port (B.doors bench.old) (B.doors bench.new) fault) }
     ensures files { B.files bench.new ≡ B.files bench.old }
     ensures seeds { B.seeds bench.new ≡ B.seeds bench.old }
-    ensures doors { B.doors bench.new ≡ B.doors bench.old }
+    ensures moments { B.moments bench.new ≡ B.moments bench.old }
 {
-    let mut lanes = Vec::with_capacity(alloc, doors.len())?;
-    'lanes: for (door, pass) in doors.into_iter().zip(passes) {
-        let number = lanes.len() as u32;
-        let least = least_message(module, kind_for(number));
-        let clock = bench.clock();
-        let gate = bench.gate(number);
-        let Ok(lane) = Lane::new(alloc, number, least, accept, pass, door, clock, gate) else {
-            return Err(AllocError);
-        };
-        lanes.push(lane)?;
+    let Some(door) = bench.door(port) else {
+        return Err(LanesFault::Door(number as u64));
+    };
+    let number = number as u32;
+    let least = least_message(module, kind_for(number));
+    let clock = bench.clock();
+    let gate = bench.gate(number);
+    match Lane::new(alloc, number, least, accept, pass, door, clock, gate) {
+        Ok(lane) => Ok(lane),
+        Err(_) => Err(LanesFault::Memory),
+    }
+}
+
+/// The lanes of a configuration, the console's first. The first pass of the desk is the one of lane 0. For k from 1 on the pass of
+/// lane k is split from the one of lane k - s, where s is the greatest power of two that is at most k.
+pub(crate) fn open_lanes<B: Bench>(
+    alloc: Global,
+    module: &Module,
+    config: &Config,
+    desk: &Desk,
+    first: Pass,
+    bench: &mut B,
+) -> Result<Vec<Lane<B::Door, B::Clock, B::Gate>>, LanesFault>
+    requires first { first ≡ first_pass desk.now }
+    requires asked { (B.doors bench.old).asked ≡ [] }
+    requires different { all_different (ports_of config.now) ≡ true }
+    ensures made { IfOk result (λ lanes. AreLanes «module».now config.now.accept (B.moments bench.old) (B.doors bench.old).connections (ports_of config.now) desk.now
+        (map (lane_state B.Door.doorway B.Door.faults B.Door.broken B.Door.is_out B.Clock.last B.Clock.to_come B.Gate.calls) lanes.items)) }
+    ensures asked { IfOk result (λ lanes. (B.doors bench.new).asked ≡ ports_of config.now) }
+    ensures refused { IfErr result (λ fault. AreRefused (ports_of config.now) (B.doors bench.old) (B.doors bench.new) fault) }
+    ensures files { B.files bench.new ≡ B.files bench.old }
+    ensures seeds { B.seeds bench.new ≡ B.seeds bench.old }
+{
+    let ports = ports_of(config);
+    let mut lanes = Vec::new(alloc);
+    let lane = open_lane(alloc, module, config.accept, 0, ports[0], first, bench)?;
+    if lanes.push(lane).is_err() {
+        return Err(LanesFault::Memory);
+    }
+    let mut span = 1;
+    'lanes: for number in 1..ports.len() {
+        if number == 2 * span {
+            span = number;
+        }
+        let pass = desk.split(&mut lanes[number - span].tools.pass);
+        let lane = open_lane(alloc, module, config.accept, number, ports[number], pass, bench)?;
+        if lanes.push(lane).is_err() {
+            return Err(LanesFault::Memory);
+        }
     }
     Ok(lanes)
 }

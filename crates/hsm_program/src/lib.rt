@@ -3,12 +3,10 @@
 #![tactic(auto)]
 
 mod command;
-mod doors;
-mod ending;
+mod ends;
 mod lanes;
 mod local;
 mod outcome;
-mod passes;
 mod reading;
 mod run;
 mod serve;
