@@ -3,3 +3,7 @@ pub mod FilesLaws
 pub mod RowLaws
 pub mod ScriptLaws
 pub mod SettingsLaws
+pub mod Lists
+pub mod Serving
+pub mod Seats
+pub mod ClearFields

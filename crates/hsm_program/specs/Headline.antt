@@ -3,7 +3,7 @@
 -- Whatever the lanes' threads do and however their streams are cut, each connection is written the framed answers that the command table gives to its
 -- messages, each at its own single entry in one legal history of bookings, authorisations and cancellations, and an answer shows a clear key or PIN only
 -- in a marked field whose activity was granted at that entry.
-use Rattle.std.specs.Prelude.{◌≡◌, ◌<◌, ◌≤◌, ◌⊎◌, ℕ, Bool, false, not, ◌==◌, List, [], ◌++◌, length, map, sum_by, slice_get, All, Option, Some}
+use Rattle.std.specs.Prelude.{◌≡◌, ◌<◌, ◌≤◌, ◌⊎◌, ℕ, false, List, [], ◌++◌, length, map, sum_by, slice_get, All, Option, Some}
 use Rattle.std.specs.List.{AllZip}
 use Rattle.hsm_auth.specs.declared.activity.Activity.{Activity}
 use Rattle.hsm_auth.specs.declared.entry.Ask.TheVariants.{Authorise}
@@ -17,7 +17,9 @@ use Rattle.hsm_config.specs.Configs.{module_of}
 use Rattle.hsm_desk.specs.Passes.{PassView, IsWhole}
 use Rattle.hsm_io.specs.Connections.{Doorway, Taken}
 use Rattle.hsm_rows.specs.declared.settings.Module.{Module}
-use Rattle.hsm_server.specs.Lanes.{IsServed, LaneView, Served, all_entries, all_reports, bytes_of, is_fault, kind_of, message_count}
+use Rattle.hsm_rows.specs.Reading.{ReadText}
+use Rattle.hsm_rows.specs.Table.{RowShape}
+use Rattle.hsm_server.specs.Lanes.{IsServed, LaneView, Served, all_entries, all_reports, bytes_of, kind_of, message_count}
 use Rattle.hsm_session.specs.Connections.{HaveMoments, Hears, Leaves, Says, framed_answers}
 use Rattle.hsm_session.specs.Plans.{least_for, side_of}
 use Rattle.hsm_program.specs.Settings.{ports_of}
@@ -103,13 +105,18 @@ pub record IsByOfficers (m : Module) (connections : List (List Served)) (place :
   pub answered : IsAnsweredAt connections 0 message place entry
   pub words : Authorises m console message activity minutes
 
--- Clear fields: each authorisation has the console's number and is by both officers' words, and an answer shows a clear key or PIN only where it was granted.
+-- The entry of an answer that shows a clear key or PIN was granted: it is answered `Use`, it needs the activity of the row's mark, and a grant that covers the
+-- activity is live just before it. An earlier entry gave that grant, no entry between ends it, and it is that of a text with both officers' words.
+pub record IsGrantedBy (m : Module) (connections : List (List Served)) (history : List Entry) (place : ℕ) (entry : Entry) (row : RowShape) (read : ReadText) : Type 0 where
+  pub at_entry : IsGrantedAt row read history place entry
+  pub by_officers : IsByOfficers m connections at_entry.giver at_entry.given.entry at_entry.grant.activity at_entry.given.minutes
+
+-- Clear fields: each authorisation has the console's number and is by both officers' words, and an answer shows a clear key or PIN only where that was granted.
 pub record ShowsGranted (m : Module) (connections : List (List Served)) (history : List Entry) : Type 0 where
-  pub console : (place : ℕ) (entry : Entry) (activity : Activity) (minutes : ℕ) → slice_get history place ≡ Some entry → entry.ask ≡ Authorise activity minutes → entry.pass ≡ 0
-  pub officers : (place : ℕ) (entry : Entry) (activity : Activity) (minutes : ℕ) → slice_get history place ≡ Some entry → entry.ask ≡ Authorise activity minutes
-      → IsByOfficers m connections place entry activity minutes
+  pub console : (place : ℕ) (entry : Entry) (activity : Activity) (minutes : ℕ) → slice_get history place ≡ Some entry → entry.ask ≡ Authorise activity minutes
+      → (entry.pass ≡ 0) × IsByOfficers m connections place entry activity minutes
   pub granted : (number : ℕ) (message : List ℕ) (place : ℕ) (entry : Entry) → IsAnsweredAt connections number message place entry
-      → (s : ShowsClear m (side_of (kind_of number)) message entry.granted) → IsGrantedAt s.row s.read history place entry
+      → (s : ShowsClear m (side_of (kind_of number)) message entry.granted) → IsGrantedBy m connections history place entry s.row s.read
 
 -- The theorem in six parts, for the connections that each lane served.
 pub record Headline (setting : Setting) (lanes : List LaneView) (pass : PassView) : Type 0 where

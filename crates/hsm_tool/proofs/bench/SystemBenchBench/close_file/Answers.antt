@@ -1,6 +1,6 @@
 use Rattle.std.proofs.Common.{arith, refl, take, ap, List, ℕ, length, ◌≡◌, ◌≤◌, ◌∙◌, rules, inl}
 use Rattle.std.proofs.lemmas.List.{take_all}
-use Rattle.hsm_tool.proofs.outside.SystemBenchBench.close_file.Goals as goal
+use Rattle.hsm_tool.proofs.bench.SystemBenchBench.close_file.Goals as goal
 
 pub returns-then-file-gt0 : goal.returns-then-file-gt0
 returns-then-file-gt0 c =
