@@ -12,7 +12,6 @@ use Rattle.hsm_auth.specs.declared.entry.Ask.{Ask}
 use Rattle.hsm_auth.specs.declared.entry.Ask.TheVariants.{Use, Authorise, Cancel, CancelAll, Look, Recent}
 use Rattle.hsm_auth.specs.declared.entry.Granted.{Granted}
 use Rattle.hsm_auth.specs.declared.entry.Entry.{Entry}
-use Rattle.hsm_auth.specs.declared.entry.TheConstants.{MAX_NOTES}
 use Rattle.hsm_auth.specs.History.{now, is_authorised, end_of, grant, given, ends, is_ended, unended, lasts, live, words_of, next, note_of, notes_of, recent}
 use Rattle.hsm_auth.proofs.Filters.{filter-same, filter-true, filter-filter, filter-comm, filter-not-or, keep_last-push}
 use Rattle.circular_buffer.specs.Buffer.{keep_last}
@@ -118,5 +117,5 @@ notes_of-push before [] e = ap (λ (b : List Entry). note_of b e ∷ []) (sym (a
 notes_of-push before (x ∷ es) e =
     ap (λ (ns : List Note). note_of before x ∷ ns) (notes_of-push (before ++ x ∷ []) es e ∙ ap (λ (b : List Entry). notes_of (before ++ x ∷ []) es ++ note_of b e ∷ []) (append_assoc before (x ∷ []) es))
 
-pub recent-push : (h : List Entry) (e : Entry) → recent (h ++ e ∷ []) ≡ keep_last MAX_NOTES (recent h ++ note_of h e ∷ [])
-recent-push h e = ap (keep_last MAX_NOTES) (notes_of-push [] h e) ∙ sym (keep_last-push MAX_NOTES (notes_of [] h) (note_of h e))
+pub recent-push : (h : List Entry) (e : Entry) → recent (h ++ e ∷ []) ≡ keep_last 16 (recent h ++ note_of h e ∷ [])
+recent-push h e = ap (keep_last 16) (notes_of-push [] h e) ∙ sym (keep_last-push 16 (notes_of [] h) (note_of h e))

@@ -3,6 +3,7 @@ mod Filters
 mod Histories
 pub mod Legal
 pub mod OwnEntries
+mod OwnTotals
 mod LiveGrants
 mod Steps
 mod Answered

@@ -5,10 +5,9 @@ use Rattle.hsm_auth.specs.declared.entry.Ask.{Ask}
 use Rattle.hsm_auth.specs.declared.entry.Ask.TheVariants.{Use, Authorise, Cancel, CancelAll, Look, Recent}
 use Rattle.hsm_auth.specs.declared.entry.Granted.{Granted}
 use Rattle.hsm_auth.specs.declared.entry.Entry.{Entry}
-use Rattle.hsm_auth.specs.declared.ledger.Ledger.{Ledger}
-use Rattle.hsm_auth.specs.declared.entry.TheConstants.{MAX_NOTES}
+use Rattle.hsm_auth.specs.declared.state.State.{State}
 use Rattle.hsm_auth.specs.History.{entry, now, lasts, live, next, recent, ends, given, words_of, kind_of, is_good, outcome, StandsFor}
-use Rattle.hsm_auth.specs.Steps.{ComesTo, answer_of, Answers, Notes}
+use Rattle.hsm_auth.specs.Steps.{view_of, ComesTo, answer_of, Answers, Notes}
 use Rattle.hsm_auth.proofs.Histories.{now-push, now-max, live-come, live-push, next-push, recent-push}
 use Rattle.circular_buffer.specs.Buffer.{keep_last}
 
@@ -20,8 +19,8 @@ outcome-of h m CancelAll = refl
 outcome-of h m Look = refl
 outcome-of h m Recent = refl
 
-pub steps : (was come done new : Ledger) (h : List Entry) (pass m : ℕ) (ask : Ask) (answer : Granted) → StandsFor was h → ComesTo m was come → Answers ask answer come done → Notes ask answer done new
-    → (answer ≡ outcome h m ask) × StandsFor new (h ++ entry pass m ask answer ∷ [])
+pub steps : (was come done new : State) (h : List Entry) (pass m : ℕ) (ask : Ask) (answer : Granted) → StandsFor (view_of was) h → ComesTo m was come → Answers ask answer come done → Notes ask answer done new
+    → (answer ≡ outcome h m ask) × StandsFor (view_of new) (h ++ entry pass m ask answer ∷ [])
 steps was come done new h pass m ask answer stands comes answers notes =
     let e : Entry = entry pass m ask answer in
     let moment : come.moment ≡ now h m = comes.moment ∙ (ap (λ (k : ℕ). max k m) stands.moment ∙ sym (now-max h m)) in
@@ -37,6 +36,6 @@ steps was come done new h pass m ask answer stands comes answers notes =
         grants = notes.grants ∙ (answers.grants ∙ ((λ i. filter (λ (g : Grant). not (ends ask answer g.activity)) (grants i) ++ given (moment i) ask answer) ∙ sym (live-push h e)));
         place = notes.place ∙ (answers.place ∙ (ap (λ (k : ℕ). (k + words_of ask answer) % 9223372036854775808) place ∙ sym (next-push h e)));
         number = notes.number ∙ (let a = answers.number in let r : (done.number + 1) % 9223372036854775808 ≡ length (h ++ e ∷ []) % 9223372036854775808 = omega arith in r);
-        notes = notes.notes ∙ ((λ i. keep_last MAX_NOTES ((answers.notes ∙ kept) i ++ record { number = (answers.number ∙ number) i; moment = (answers.moment ∙ moment) i; kind = kind_of ask; good = is_good answer } ∷ [])) ∙ sym (recent-push h e));
+        notes = notes.notes ∙ ((λ i. keep_last 16 ((answers.notes ∙ kept) i ++ record { number = (answers.number ∙ number) i; moment = (answers.moment ∙ moment) i; kind = kind_of ask; good = is_good answer } ∷ [])) ∙ sym (recent-push h e));
       },
     )

@@ -13,8 +13,7 @@ use Rattle.hsm_auth.specs.declared.entry.Ask.TheVariants.{Use, Authorise, Cancel
 use Rattle.hsm_auth.specs.declared.entry.Granted.{Granted}
 use Rattle.hsm_auth.specs.declared.entry.Granted.TheVariants as granted
 use Rattle.hsm_auth.specs.declared.entry.Entry.{Entry}
-use Rattle.hsm_auth.specs.declared.entry.TheConstants.{MAX_GRANTS, MAX_MINUTES, MAX_WORDS, MAX_MOMENT, MAX_NOTES}
-use Rattle.hsm_auth.specs.declared.ledger.Ledger.{Ledger}
+use Rattle.hsm_auth.specs.Ledgers.{LedgerView}
 use Rattle.hsm_auth.specs.Activities.{same_activity, covers}
 
 -- the entry of the pass of this number, at the moment, with its ask and answer
@@ -130,9 +129,9 @@ abbrev pub notes_of : List Entry → List Entry → List Note
 notes_of before [] = []
 notes_of before (e ∷ es) = note_of before e ∷ notes_of (before ++ e ∷ []) es
 
--- the notes of the last entries, of which so many are kept
+-- the notes of the last 16 entries
 abbrev pub recent : List Entry → List Note
-recent h = keep_last MAX_NOTES (notes_of [] h)
+recent h = keep_last 16 (notes_of [] h)
 
 -- a live grant covers the need, if there is one
 abbrev pub is_met : Option Activity → List Grant → Bool
@@ -151,10 +150,10 @@ same_count a grants = count_by (λ (g : Grant). same_activity a g.activity) gran
 abbrev pub other_count : Activity → List Grant → ℕ
 other_count a grants = count_by (λ (g : Grant). not (same_activity a g.activity)) grants
 
--- what the history answers to the ask at the moment m
+-- what the history answers to the ask at the moment m. A grant is refused where 32 of other activities live
 abbrev pub outcome : List Entry → ℕ → Ask → Granted
 outcome h m (Use needs words) = if are_met needs (live h m) then granted.Use (next h) else granted.Refused
-outcome h m (Authorise activity minutes) = if nat_le MAX_GRANTS (other_count activity (live h m)) then granted.Full else granted.Authorised
+outcome h m (Authorise activity minutes) = if nat_le 32 (other_count activity (live h m)) then granted.Full else granted.Authorised
 outcome h m (Cancel activity) = granted.Cancelled (same_count activity (live h m))
 outcome h m CancelAll = granted.Cancelled (length (live h m))
 outcome h m Look = granted.Seen (now h m) (next h) record { items = live h m }
@@ -164,10 +163,10 @@ outcome h m Recent = granted.Recent record { items = recent h }
 abbrev pub Fits : Ask → Granted → Type 0
 Fits ask answer = (h : List Entry) × (m : ℕ) × (answer ≡ outcome h m ask)
 
--- the words and the minutes of the ask are within their limits
+-- at most 12 words are asked for, and a grant of at most 720 minutes
 abbrev pub CanAsk : Ask → Type 0
-CanAsk (Use needs words) = words ≤ MAX_WORDS
-CanAsk (Authorise activity minutes) = minutes ≤ MAX_MINUTES
+CanAsk (Use needs words) = words ≤ 12
+CanAsk (Authorise activity minutes) = minutes ≤ 720
 CanAsk (Cancel activity) = Unit {0}
 CanAsk CancelAll = Unit {0}
 CanAsk Look = Unit {0}
@@ -176,17 +175,21 @@ CanAsk Recent = Unit {0}
 -- the entry is one that may follow the history
 pub record IsLegalEntry (h : List Entry) (e : Entry) : Type 0 where
   pub answers : e.granted ≡ outcome h e.moment e.ask
-  pub moment : e.moment ≤ MAX_MOMENT
+  pub moment : e.moment ≤ 2 ^ 40
   pub ask : CanAsk e.ask
 
 -- each entry is one that may follow the entries before it
 abbrev pub IsLegal : List Entry → Type 0
 IsLegal h = (i : ℕ) (e : Entry) → slice_get h i ≡ Some e → IsLegalEntry (take i h) e
 
--- the ledger stands for the history: its five fields are what the history says
-pub record StandsFor (ledger : Ledger) (h : List Entry) : Type 0 where
+-- the ledger stands for the history: its five parts are what the history says
+pub record StandsFor (ledger : LedgerView) (h : List Entry) : Type 0 where
   pub moment : ledger.moment ≡ now h 0
-  pub grants : ledger.grants.items ≡ live h 0
+  pub grants : ledger.grants ≡ live h 0
   pub place : ledger.place ≡ next h
   pub number : ledger.number ≡ length h % 2 ^ 63
-  pub notes : ledger.notes.items ≡ recent h
+  pub notes : ledger.notes ≡ recent h
+
+-- the ledger stands for some history
+abbrev pub IsKnown : LedgerView → Type 0
+IsKnown ledger = (h : List Entry) × StandsFor ledger h

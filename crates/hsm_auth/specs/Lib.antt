@@ -1,4 +1,5 @@
 pub mod Activities
+pub mod Ledgers
 pub mod History
 pub mod Grants
 pub mod Own

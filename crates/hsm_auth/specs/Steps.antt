@@ -1,4 +1,4 @@
--- The parts of a ledger's step.
+-- What contracts see of a ledger's state, and the parts of its step.
 use Rattle.std.specs.Prelude.{◌≡◌, ℕ, ◌+◌, ◌%◌, ◌^◌, max, not, nat_le, if◌then◌else◌, List, [], ◌∷◌, ◌++◌, length, filter}
 use Rattle.circular_buffer.specs.Buffer.{keep_last}
 use Rattle.hsm_auth.specs.declared.entry.Grant.{Grant}
@@ -7,12 +7,16 @@ use Rattle.hsm_auth.specs.declared.entry.Ask.{Ask}
 use Rattle.hsm_auth.specs.declared.entry.Ask.TheVariants.{Use, Authorise, Cancel, CancelAll, Look, Recent}
 use Rattle.hsm_auth.specs.declared.entry.Granted.{Granted}
 use Rattle.hsm_auth.specs.declared.entry.Granted.TheVariants as granted
-use Rattle.hsm_auth.specs.declared.entry.TheConstants.{MAX_GRANTS, MAX_NOTES}
-use Rattle.hsm_auth.specs.declared.ledger.Ledger.{Ledger}
+use Rattle.hsm_auth.specs.declared.state.State.{State}
+use Rattle.hsm_auth.specs.Ledgers.{LedgerView}
 use Rattle.hsm_auth.specs.History.{lasts, ends, given, words_of, kind_of, is_good, are_met, same_count, other_count}
 
+-- a state as contracts see it
+abbrev pub view_of : State → LedgerView
+view_of s = record { moment = s.moment; grants = s.grants.items; place = s.place; number = s.number; notes = s.notes.items }
+
 -- the moment is come, and the grants whose end is come are gone
-pub record ComesTo (m : ℕ) (was new : Ledger) : Type 0 where
+pub record ComesTo (m : ℕ) (was new : State) : Type 0 where
   pub moment : new.moment ≡ max was.moment m
   pub grants : new.grants.items ≡ filter (lasts (max was.moment m)) was.grants.items
   pub place : new.place ≡ was.place
@@ -22,14 +26,14 @@ pub record ComesTo (m : ℕ) (was new : Ledger) : Type 0 where
 -- what a ledger of this moment, random place, grants and notes answers
 abbrev pub answer_of : ℕ → ℕ → List Grant → List Note → Ask → Granted
 answer_of moment place grants notes (Use needs words) = if are_met needs grants then granted.Use place else granted.Refused
-answer_of moment place grants notes (Authorise activity minutes) = if nat_le MAX_GRANTS (other_count activity grants) then granted.Full else granted.Authorised
+answer_of moment place grants notes (Authorise activity minutes) = if nat_le 32 (other_count activity grants) then granted.Full else granted.Authorised
 answer_of moment place grants notes (Cancel activity) = granted.Cancelled (same_count activity grants)
 answer_of moment place grants notes CancelAll = granted.Cancelled (length grants)
 answer_of moment place grants notes Look = granted.Seen moment place record { items = grants }
 answer_of moment place grants notes Recent = granted.Recent record { items = notes }
 
 -- the ask is answered, and the grants and the random place are what they are after it
-pub record Answers (ask : Ask) (answer : Granted) (was new : Ledger) : Type 0 where
+pub record Answers (ask : Ask) (answer : Granted) (was new : State) : Type 0 where
   pub answered : answer ≡ answer_of was.moment was.place was.grants.items was.notes.items ask
   pub moment : new.moment ≡ was.moment
   pub grants : new.grants.items ≡ filter (λ (g : Grant). not (ends ask answer g.activity)) was.grants.items ++ given was.moment ask answer
@@ -38,9 +42,9 @@ pub record Answers (ask : Ask) (answer : Granted) (was new : Ledger) : Type 0 wh
   pub notes : new.notes.items ≡ was.notes.items
 
 -- the note is made, and the number grows
-pub record Notes (ask : Ask) (answer : Granted) (was new : Ledger) : Type 0 where
+pub record Notes (ask : Ask) (answer : Granted) (was new : State) : Type 0 where
   pub moment : new.moment ≡ was.moment
   pub grants : new.grants.items ≡ was.grants.items
   pub place : new.place ≡ was.place
   pub number : new.number ≡ (was.number + 1) % 2 ^ 63
-  pub notes : new.notes.items ≡ keep_last MAX_NOTES (was.notes.items ++ record { number = was.number; moment = was.moment; kind = kind_of ask; good = is_good answer } ∷ [])
+  pub notes : new.notes.items ≡ keep_last 16 (was.notes.items ++ record { number = was.number; moment = was.moment; kind = kind_of ask; good = is_good answer } ∷ [])

@@ -1,15 +1,15 @@
-//! The ledger's step.
+//! A step of the ledger's state.
 ghost use Rattle.std.specs.Prelude.{◌≡◌, ℕ, ◌+◌, ◌%◌, ◌^◌, ◌<◌, ◌≤◌, List, [], ◌∷◌, ◌++◌, IfOk, length, filter, if◌then◌else◌, ◌==◌, not};
 ghost use Rattle.std.specs.List.{list_any};
 ghost use Rattle.hsm_auth.specs.declared.entry.Ask.TheVariants.{Use, Authorise, Cancel, CancelAll, Look, Recent};
 ghost use Rattle.hsm_auth.specs.declared.entry.Entry.{Entry};
 ghost use Rattle.hsm_auth.specs.Activities.{same_activity, covers};
 ghost use Rattle.hsm_auth.specs.History.{entry, outcome, CanAsk, IsLegal, StandsFor, lasts, end_of, is_met, are_met, kind_of, is_good, other_count};
-ghost use Rattle.hsm_auth.specs.Steps.{ComesTo, Answers, Notes};
+ghost use Rattle.hsm_auth.specs.Steps.{view_of, ComesTo, Answers, Notes};
 
 use crate::activity::{Activity, covers};
-use crate::entry::{Ask, Grant, Granted, Kind, MAX_GRANTS, MAX_MOMENT, MAX_NOTES, Needs, Note};
-use crate::ledger::Ledger;
+use crate::entry::{Ask, Grant, Granted, Kind, MAX_GRANTS, MAX_NOTES, Needs, Note};
+use crate::state::State;
 use arrayvec::ArrayVec;
 use circular_buffer::HeapCircularBuffer;
 use std::alloc::{AllocError, Global};
@@ -26,7 +26,7 @@ impl Grant {
 }
 
 fn end_of(moment: u64, minutes: u16) -> u64
-    requires { moment ≤ MAX_MOMENT }
+    requires { moment ≤ 2 ^ 40 }
     ensures { result ≡ end_of moment minutes }
 {
     if minutes == 0 {
@@ -123,13 +123,12 @@ impl Granted {
     }
 }
 
-impl Ledger {
-    /// The ledger of the empty history: moment 0, no grants, random place 0, number 0, no notes.
-    /// Want of memory is the one refusal.
-    pub fn new(alloc: Global) -> Result<Ledger, AllocError>
-        ensures { IfOk result (λ l. StandsFor l []) }
+impl State {
+    /// The state of the empty history. Want of memory is the one refusal.
+    pub(crate) fn new(alloc: Global) -> Result<State, AllocError>
+        ensures { IfOk result (λ s. StandsFor (view_of s) []) }
     {
-        Ok(Ledger {
+        Ok(State {
             moment: 0,
             grants: ArrayVec::new(),
             place: 0,
@@ -138,16 +137,13 @@ impl Ledger {
         })
     }
 
-    /// Makes one entry: takes the moment, in seconds, drops the grants whose end is come, answers the ask and notes it.
-    /// It takes no memory. `Refused` comes exactly where the ask is `Use` and a need is covered by no live grant,
-    /// `Full` exactly where it is `Authorise` and `MAX_GRANTS` grants of other activities live.
-    /// After a refusal the moment is taken and the note made all the same.
-    pub fn step(&mut self, moment: u64, ask: &Ask) -> Granted
-        requires moment { moment ≤ MAX_MOMENT }
+    /// Makes one entry.
+    pub(crate) fn step(&mut self, moment: u64, ask: &Ask) -> Granted
+        requires moment { moment ≤ 2 ^ 40 }
         requires ask { CanAsk ask.now }
-        ensures answer { (h : List Entry) → StandsFor self.old h → result ≡ outcome h moment ask.now }
-        ensures stands { (h : List Entry) (pass : ℕ) → StandsFor self.old h → StandsFor self.new (h ++ entry pass moment ask.now result ∷ []) }
-        ensures legal { (h : List Entry) (pass : ℕ) → StandsFor self.old h → IsLegal h → IsLegal (h ++ entry pass moment ask.now result ∷ []) }
+        ensures answer { (h : List Entry) → StandsFor (view_of self.old) h → result ≡ outcome h moment ask.now }
+        ensures stands { (h : List Entry) (pass : ℕ) → StandsFor (view_of self.old) h → StandsFor (view_of self.new) (h ++ entry pass moment ask.now result ∷ []) }
+        ensures legal { (h : List Entry) (pass : ℕ) → StandsFor (view_of self.old) h → IsLegal h → IsLegal (h ++ entry pass moment ask.now result ∷ []) }
     {
         self.come_to(moment);
         let granted = self.answer(ask);
@@ -156,7 +152,7 @@ impl Ledger {
     }
 
     fn come_to(&mut self, moment: u64)
-        requires { moment ≤ MAX_MOMENT }
+        requires { moment ≤ 2 ^ 40 }
         ensures { ComesTo moment self.old self.new }
     {
         self.moment = self.moment.max(moment);

@@ -1,7 +1,7 @@
 use Rattle.std.proofs.Common.{◌∙◌, refl, ap}
 use Rattle.hsm_auth.specs.declared.entry.Granted.TheVariants.{Cancelled}
 use Rattle.hsm_auth.proofs.Answered.{none-stay, place-stays}
-use Rattle.hsm_auth.proofs.ledger.Ledger.cancel_all.Goals as goal
+use Rattle.hsm_auth.proofs.state.State.cancel_all.Goals as goal
 
 pub returns : goal.returns
 returns c = let l = c.args.self.now in record {

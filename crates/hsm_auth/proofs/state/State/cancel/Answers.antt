@@ -1,7 +1,7 @@
 use Rattle.std.proofs.Common.{◌≡◌, ◌-◌, ◌∙◌, refl, sym, ap, ap₂, length, append-nil, arith}
 use Rattle.hsm_auth.specs.declared.entry.Granted.TheVariants.{Cancelled}
 use Rattle.hsm_auth.proofs.Answered.{others, count-gone, length-others_le, place-stays}
-use Rattle.hsm_auth.proofs.ledger.Ledger.cancel.Goals as goal
+use Rattle.hsm_auth.proofs.state.State.cancel.Goals as goal
 
 pub overflow_sub-result : goal.overflow_sub-result
 overflow_sub-result c =
