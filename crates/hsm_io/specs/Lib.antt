@@ -9,4 +9,3 @@ pub mod Moments
 pub mod MemoryForms
 pub mod Places
 pub mod MemoryLinks
-pub mod Gates
