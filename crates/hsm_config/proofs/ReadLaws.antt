@@ -10,8 +10,8 @@ use Rattle.std.proofs.lemmas.Str.{IsUtf8-from_is_utf8, is_utf8-from_IsUtf8}
 use Rattle.toml.specs.Data.{Data, Members}
 use Rattle.toml.specs.Parse.{parse_document}
 use Rattle.hsm_config.specs.Document.{elements_at, is_within, number_of}
-use Rattle.hsm_config.specs.Rules.{are_odd, first_broken, has_host_ports, has_odd_pairs, host_ports_of}
-use Rattle.hsm_config.specs.Configs.{config_in, config_of, settled}
+use Rattle.hsm_config.specs.Rules.{all_different, are_odd, first_broken, has_different_ports, has_host_ports, has_odd_pairs, host_ports_of}
+use Rattle.hsm_config.specs.Configs.{config_in, config_of, settled, ports_of}
 use Rattle.hsm_config.specs.declared.configuration.Config.{Config}
 use Rattle.hsm_config.specs.declared.configuration.ConfigFault.{ConfigFault}
 use Rattle.hsm_config.specs.declared.configuration.ConfigFault.TheVariants.{Memory, NotToml}
@@ -52,6 +52,14 @@ odd_told d (Ok config) is =
     let odd : has_odd_pairs d ≡ true = rule_holds d 5 (lit< tt) parts.0 in
     ap (λ (c : Config). are_odd c.pairs) parts.1 ∙ odd
 odd_told d (Err fault) is = tt
+
+pub different_told : (d : Members) (r : Result Config ConfigFault) → r ≡ settled d (first_broken d) → IfOk r (λ config. all_different (ports_of config) ≡ true)
+unfolding config_of
+different_told d (Ok config) is =
+    let parts = told d (first_broken d) config is in
+    let different : has_different_ports d ≡ true = rule_holds d 8 (lit< tt) parts.0 in
+    ap (λ (c : Config). all_different (ports_of c)) parts.1 ∙ different
+different_told d (Err fault) is = tt
 
 some_elements : (values : List Data) (test : Bool) → ((nat_le 1 (length values) && nat_le (length values) 64) && test) ≡ true
     → 1 ≤ length (map (λ port. unwrap_or (number_of port) 0) values)

@@ -1,5 +1,5 @@
 -- The configuration of a document and of bytes, and its module.
-use Rattle.std.specs.Prelude.{ℕ, List, [], length, map, Option, Some, None, Result, Ok, Err, codes}
+use Rattle.std.specs.Prelude.{ℕ, List, [], ◌∷◌, length, map, Option, Some, None, Result, Ok, Err, codes}
 use Rattle.toml.specs.Data.{Members}
 use Rattle.hsm_types.specs.Table.{table_permits}
 use Rattle.hsm_lmk.specs.Sealing.{pair_key}
@@ -45,3 +45,7 @@ module_of config seed = record {
   officers = config.officers;
   seed = seed;
 }
+
+-- the ports of the lanes: the console's, and then those of the hosts
+abbrev pub ports_of : Config → List ℕ
+ports_of config = config.console_port ∷ config.host_ports.items

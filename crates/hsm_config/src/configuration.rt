@@ -1,9 +1,9 @@
 //! The configuration of a document.
 
-ghost use Rattle.std.specs.Prelude.{◌≡◌, ◌⊎◌, ◌≤◌, length, IsTrue, IfOk, IfErr};
+ghost use Rattle.std.specs.Prelude.{◌≡◌, ◌⊎◌, ◌≤◌, length, true, IsTrue, IfOk, IfErr};
 ghost use Rattle.toml.specs.View.{table_view};
-ghost use Rattle.hsm_config.specs.Configs.{config_in, module_of, settled};
-ghost use Rattle.hsm_config.specs.Rules.{are_odd, first_broken};
+ghost use Rattle.hsm_config.specs.Configs.{config_in, module_of, ports_of, settled};
+ghost use Rattle.hsm_config.specs.Rules.{all_different, are_odd, first_broken};
 
 use crate::keys::has_known_keys;
 use crate::pairs::{are_odd, pairs_of};
@@ -55,6 +55,8 @@ impl Config {
         // What `module` wants of a configuration.
         ensures odd { IfOk result (λ config. IsTrue (are_odd config.pairs)) }
         ensures some_host { IfOk result (λ config. 1 ≤ length config.host_ports.items) }
+        // What one who opens the ports wants of it.
+        ensures different { IfOk result (λ config. all_different (ports_of config) ≡ true) }
     {
         match toml::table_from_slice(alloc, bytes) {
             Ok(table) => config_of(&table),

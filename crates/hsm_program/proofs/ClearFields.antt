@@ -1,7 +1,6 @@
 -- What is shown in the clear over all lanes, and by whom it was granted.
 use Rattle.std.proofs.Common.{◌≡◌, ◌⊎◌, ℕ, zero, suc, ◌+◌, ◌-◌, ◌<◌, ◌≤◌, Bool, true, false, List, [], ◌∷◌, ◌++◌, length, flat_map, All, slice_get, Some, refl, sym, ap, subst, ◌∙◌, inl, inr, arith}
 use Rattle.std.specs.List.{AllZip}
-use Rattle.std.proofs.lemmas.Bool.{cases_lt}
 use Rattle.hsm_auth.specs.declared.activity.Activity.{Activity}
 use Rattle.hsm_auth.specs.declared.entry.Ask.{Ask}
 use Rattle.hsm_auth.specs.declared.entry.Ask.TheVariants.{Authorise}
@@ -15,6 +14,7 @@ use Rattle.hsm_session.specs.declared.plans.Kind.TheVariants.{Host}
 use Rattle.hsm_session.specs.Connections.{AuthoriseNothing, IsEntryFor, is_authorise}
 use Rattle.hsm_session.specs.Plans.{side_of}
 use Rattle.hsm_server.specs.Lanes.{IsServed, Served, all_entries, kind_of}
+use Rattle.hsm_program.proofs.Lists.{index_at, within}
 use Rattle.hsm_program.specs.Headline.{IsAnsweredAt, IsByOfficers, IsGrantedBy, ShowsGranted}
 
 -- where an item of joined lists stands
@@ -74,7 +74,7 @@ zip_both R (a ∷ xs) (b ∷ ys) zero x y all at there = let e : a ≡ x = cc in
 zip_both R (a ∷ xs) (b ∷ ys) (suc k) x y all at there = zip_both R xs ys k x y all.1 at there
 
 all_at : {A : Type 0} (P : A → Type 0) (xs : List A) (k : ℕ) (x : A) → All P xs → slice_get xs k ≡ Some x → P x
-all_at P xs k x all at = search (all, at)
+all_at P xs k x all at = subst P (index_at xs k x x at) (all k x (within xs k x at))
 
 -- what is known of each lane: its entries are those of its connections, with what their messages ask, and a host's authorise nothing
 pub record Known (m : Module) (history : List Entry) (number : ℕ) (served : List Served) : Type 0 where

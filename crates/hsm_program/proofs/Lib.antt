@@ -7,3 +7,4 @@ pub mod Lists
 pub mod Serving
 pub mod Seats
 pub mod ClearFields
+pub mod Opening

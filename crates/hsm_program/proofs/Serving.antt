@@ -16,7 +16,7 @@ use Rattle.hsm_server.specs.Lanes.{IsServed, IsToldBy, LaneState, LaneView, Ran,
 use Rattle.hsm_program.specs.Headline.{HasNoOther, Headline, IsHeard, IsWritten, LaneHears, LaneRuns, OfEach, ServesInOrder, Setting, WhereTold, module_in}
 use Rattle.hsm_program.specs.Lanes.{IsNewLane}
 use Rattle.hsm_program.specs.Serving.{HasCauses, IsNamed}
-use Rattle.hsm_program.specs.Settings.{ports_of}
+use Rattle.hsm_config.specs.Configs.{ports_of}
 use Rattle.hsm_program.proofs.ClearFields.{AllKnown, ClearWhereGranted, OwnEvery, OwnThere, WordsAuthorise, clear_fields}
 use Rattle.hsm_program.proofs.Lists.{item_at, map_from, within, zip_length, zip_map, zip_of_map}
 

@@ -22,7 +22,7 @@ use Rattle.hsm_rows.specs.Table.{RowShape}
 use Rattle.hsm_server.specs.Lanes.{IsServed, LaneView, Served, all_entries, all_reports, bytes_of, kind_of, message_count}
 use Rattle.hsm_session.specs.Connections.{HaveMoments, Hears, Leaves, Says, framed_answers}
 use Rattle.hsm_session.specs.Plans.{least_for, side_of}
-use Rattle.hsm_program.specs.Settings.{ports_of}
+use Rattle.hsm_config.specs.Configs.{ports_of}
 
 -- What serving was given: the configuration and the seed, and where the bench tells them the connections that were to come at each port and the
 -- moments of the clocks.

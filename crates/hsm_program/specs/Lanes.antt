@@ -1,8 +1,8 @@
 -- The lanes before they are served, and the passes that they book with; no public contract cites these.
-use Rattle.std.specs.Prelude.{◌≡◌, ◌<◌, ◌≤◌, ◌+◌, ◌*◌, ◌^◌, ◌||◌, ◌⊎◌, nat_lt, nat_le, if◌then◌else◌, ℕ, Bool, false, List, [], ◌∷◌, ◌++◌, length, map, flat_map, slice_get, take, Option, Some}
+use Rattle.std.specs.Prelude.{◌≡◌, ◌<◌, ◌≤◌, ◌+◌, ◌*◌, ◌^◌, ◌||◌, ◌⊎◌, nat_lt, nat_le, ◌==◌, if◌then◌else◌, ℕ, Bool, false, List, [], ◌∷◌, ◌++◌, length, map, flat_map, slice_get, take, Option, Some}
 use Rattle.atomic_table.specs.Seated.{TableId}
 use Rattle.hsm_auth.specs.Own.{own}
-use Rattle.hsm_desk.specs.Passes.{PassView, Sound, KeepsOwn}
+use Rattle.hsm_desk.specs.Passes.{PassView, Sound, KeepsOwn, kept_pass}
 use Rattle.hsm_io.specs.Connections.{Doorway}
 use Rattle.hsm_io.specs.Outside.{Rose}
 use Rattle.hsm_io.specs.Sides.{DoorSide}
@@ -22,6 +22,14 @@ step_of span count number = if nat_lt (number + span) count || nat_le span numbe
 -- the pass of a number before anything was booked
 abbrev pub seat : TableId → ℕ → ℕ → ℕ → PassView
 seat desk span count number = record { desk = desk; seen = []; kin = (number, step_of span count number) ∷ [] }
+
+-- the span for the lane of this number, where the given one was that for the lane before it: it doubles where the number is twice as much
+abbrev pub next_span : ℕ → ℕ → ℕ
+next_span span number = if number == 2 * span then number else span
+
+-- a lane after a pass was split from its own
+abbrev pub keeps : LaneState → LaneState
+keeps lane = record lane { pass = kept_pass lane.pass }
 
 -- the span is a power of two, at most the count and at least half of it
 pub record IsSpan (span count : ℕ) : Type 0 where

@@ -17,7 +17,8 @@ use Rattle.hsm_server.specs.declared.lane.LaneEnd.{LaneEnd}
 use Rattle.hsm_server.specs.Lanes.{LaneView, lane_view, fault_count, is_fault, message_count, risen}
 use Rattle.hsm_program.specs.Headline.{Headline, WhereTold}
 use Rattle.hsm_program.specs.Runs.{HasStatus}
-use Rattle.hsm_program.specs.Settings.{Says, ports_of}
+use Rattle.hsm_config.specs.Configs.{ports_of}
+use Rattle.hsm_program.specs.Settings.{Says}
 use Rattle.hsm_program.specs.Words.{Asked, usage, serve, script, check, explain}
 use Rattle.hsm_program.specs.declared.outcome.Outcome.{Outcome}
 use Rattle.hsm_program.specs.declared.outcome.Outcome.TheVariants.{Served, Usage, FileFault, SeedFault, ListenFault, OutFault, FileLong, ConfigRefused, ScriptRefused, Memory}

@@ -20,7 +20,3 @@ run_module config = module_of config (replicate 32 0)
 -- what is printed of a configuration that is checked: the number of its host ports
 abbrev pub check_text : Config → List ℕ
 check_text config = codes "OK " ++ decimal (length config.host_ports.items) ++ 10 ∷ []
-
--- the ports of the lanes: the console's, and then those of the hosts
-abbrev pub ports_of : Config → List ℕ
-ports_of config = config.console_port ∷ config.host_ports.items

@@ -1,18 +1,18 @@
 //! The lanes before they are served.
 
-ghost use Rattle.std.specs.Prelude.{◌≡◌, ◌<◌, ◌++◌, ◌∷◌, [], true, IfOk, IfErr, length, map};
+ghost use Rattle.std.specs.Prelude.{◌≡◌, ◌<◌, ◌≤◌, ◌^◌, ◌++◌, ◌∷◌, [], true, IfOk, IfErr, length, map};
 ghost use Rattle.hsm_config.specs.Rules.{all_different};
-ghost use Rattle.hsm_desk.specs.Passes.{first_pass};
+ghost use Rattle.hsm_desk.specs.Passes.{first_pass, new_pass, step};
 ghost use Rattle.hsm_io.specs.Sides.{IsNotAmong};
 ghost use Rattle.hsm_rows.specs.declared.settings.Module.{Module};
 ghost use Rattle.hsm_server.specs.Lanes.{lane_state};
-ghost use Rattle.hsm_program.specs.Lanes.{AreLanes, AreRefused, IsNewLane, IsRefused, OthersStay};
-ghost use Rattle.hsm_program.specs.Settings.{ports_of};
+ghost use Rattle.hsm_program.specs.Lanes.{AreLanes, AreRefused, IsNewLane, IsRefused, OthersStay, keeps, next_span};
+ghost use Rattle.hsm_config.specs.Configs.{ports_of};
 
 use arrayvec::ArrayVec;
 use hsm_config::Config;
 use hsm_desk::{Desk, Pass};
-use hsm_io::Bench;
+use hsm_io::{Bench, Clock, Door, Gate};
 use hsm_rows::Module;
 use hsm_server::{Lane, kind_for};
 use hsm_session::least_message;
@@ -36,6 +36,25 @@ fn ports_of(config: &Config) -> ArrayVec<u16, 65>
         ports.push(*port);
     }
     ports
+}
+
+// The greatest power of two that is at most the number of the next lane, where the given one was that for the lane before it.
+fn next_span(span: usize, number: usize) -> usize
+    requires { span ≤ 65 }
+    ensures { result ≡ next_span span number }
+{
+    if number == 2 * span { number } else { span }
+}
+
+// A pass split from the one of a lane.
+fn split_lane<D: Door, C: Clock, G: Gate>(desk: &Desk, lane: &mut Lane<D, C, G>) -> Pass
+    requires desk { lane.old.tools.pass.desk ≡ desk.now }
+    requires room { step lane.old.tools.pass ≤ 2 ^ 61 }
+    ensures given { lane_state D.doorway D.faults D.broken D.is_out C.last C.to_come G.calls lane.new
+        ≡ keeps (lane_state D.doorway D.faults D.broken D.is_out C.last C.to_come G.calls lane.old) }
+    ensures new { result ≡ new_pass lane.old.tools.pass }
+{
+    desk.split(&mut lane.tools.pass)
 }
 
 // The lane of this number over the door of its port, with a clock and a gate of the bench.
@@ -101,10 +120,8 @@ pub(crate) fn open_lanes<B: Bench>(
     }
     let mut span = 1;
     'lanes: for number in 1..ports.len() {
-        if number == 2 * span {
-            span = number;
-        }
-        let pass = desk.split(&mut lanes[number - span].tools.pass);
+        span = next_span(span, number);
+        let pass = split_lane(desk, &mut lanes[number - span]);
         let lane = open_lane(alloc, module, config.accept, number, ports[number], pass, bench)?;
         if lanes.push(lane).is_err() {
             return Err(LanesFault::Memory);

@@ -8,7 +8,7 @@ ghost use Rattle.hsm_program.specs.Files.{FilesStay};
 ghost use Rattle.hsm_program.specs.Lanes.{AreRefused};
 ghost use Rattle.hsm_program.specs.Runs.{AnswersConfig, WritesNothing};
 ghost use Rattle.hsm_program.specs.Serving.{AnswersServe, HasServed, IsListenFault, IsServeStatus, IsThere, ServedBy, has_lanes, lane_views};
-ghost use Rattle.hsm_program.specs.Settings.{ports_of};
+ghost use Rattle.hsm_config.specs.Configs.{ports_of};
 
 use crate::ends::{end_lanes, print_lanes, status_of};
 use crate::lanes::{LanesFault, open_lanes};

@@ -1,6 +1,6 @@
 use Rattle.std.proofs.Common.{sym, ◌∙◌, inr}
 use Rattle.toml.specs.View.{table_view}
-use Rattle.hsm_config.proofs.ReadLaws.{host_told, if_err, if_ok, not_read, odd_told, read_is}
+use Rattle.hsm_config.proofs.ReadLaws.{different_told, host_told, if_err, if_ok, not_read, odd_told, read_is}
 use Rattle.hsm_config.proofs.configuration.Config.read.Goals as goal
 
 pub returns-in-Ok-clause-ok : goal.returns-in-Ok-clause-ok
@@ -18,6 +18,9 @@ returns-in-Ok-clause-odd c = odd_told (table_view c.in-Ok.table) c.config_of.res
 
 pub returns-in-Ok-clause-some_host : goal.returns-in-Ok-clause-some_host
 returns-in-Ok-clause-some_host c = host_told (table_view c.in-Ok.table) c.config_of.result c.config_of.ensures
+
+pub returns-in-Ok-clause-different : goal.returns-in-Ok-clause-different
+returns-in-Ok-clause-different c = different_told (table_view c.in-Ok.table) c.config_of.result c.config_of.ensures
 
 pub returns-else-is_memory-clause-refused : goal.returns-else-is_memory-clause-refused
 returns-else-is_memory-clause-refused c =
