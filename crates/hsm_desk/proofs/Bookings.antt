@@ -1,5 +1,5 @@
 -- One booking, put together from its steps.
-use Rattle.std.proofs.Common.{◌≡◌, ℕ, ◌+◌, ◌%◌, ◌^◌, ◌<◌, List, [], ◌∷◌, ◌++◌, length, Option, Some, None, refl, sym, ap, ap₂, ◌∙◌, subst, arith, length-append}
+use Rattle.std.proofs.Common.{◌≡◌, ℕ, ◌+◌, ◌%◌, ◌^◌, ◌<◌, ◌≤◌, List, [], ◌∷◌, ◌++◌, length, Option, Some, None, refl, sym, ap, ap₂, ◌∙◌, subst, arith, length-append}
 use Rattle.atomic_table.specs.Table.{Allows, rest}
 use Rattle.atomic_table.specs.Seated.{TableId}
 use Rattle.hsm_auth.specs.declared.entry.Ask.{Ask}
@@ -102,13 +102,14 @@ books_as p desk desk' known t drawn taken made x0 x moment ask granted place is 
     (books_from desk desk' known t drawn taken made x0 x moment ask granted place here draws early has may stands makes m a b answers)
 
 -- what holds of the pass after a booking
-pub sound_after : (known : Known) (t : ℕ) (drawn taken made : Seated) (x0 x : Held) → IsSound known.seen known.kin → drawn ≡ (viewed known (Waiting t), []) → Has t drawn taken x0 → IsLegal (taken.0.known.seen ++ entry_by taken.0.known.kin x ∷ [])
+pub sound_after : (known : Known) (t : ℕ) (drawn taken made : Seated) (x0 x : Held) → IsSound known.seen known.kin → drawn ≡ (viewed known (Waiting t), []) → t < 2 ^ 62 → Has t drawn taken x0 → IsLegal (taken.0.known.seen ++ entry_by taken.0.known.kin x ∷ [])
     → made ≡ (viewed (knowing (taken.0.known.seen ++ entry_by taken.0.known.kin x ∷ []) taken.0.known.kin) Idle, []) → Owns (taken.0.known.seen ++ entry_by taken.0.known.kin x ∷ []) taken.0.known.kin
     → IsSound made.0.known.seen made.0.known.kin
-sound_after known t drawn taken made x0 x sound draws has may makes own =
+sound_after known t drawn taken made x0 x sound draws early has may makes own =
     let seen : List Entry = taken.0.known.seen in
     let kin' : known.kin ≡ taken.0.known.kin = sym (has.kin ∙ ap (λ (s : Seated). s.0.known.kin) draws) in
-    let fact : IsSound (seen ++ entry_by taken.0.known.kin x ∷ []) taken.0.known.kin = record { legal = may; pairs = subst IsKin kin' sound.pairs; own = own; first = subst IsCons kin' sound.first } in
+    let few : length (seen ++ entry_by taken.0.known.kin x ∷ []) ≤ 2 ^ 62 = let long = length-append seen (entry_by taken.0.known.kin x ∷ []) in let place = has.place in omega arith in
+    let fact : IsSound (seen ++ entry_by taken.0.known.kin x ∷ []) taken.0.known.kin = record { legal = may; pairs = subst IsKin kin' sound.pairs; own = own; first = subst IsCons kin' sound.first; few = few } in
     subst (λ (s : Seated). IsSound s.0.known.seen s.0.known.kin) (sym makes) fact
 
 pub own_from : (was me : Seated) (x : Held) (n : ℕ) (new : Seated) → was.1 ≡ (0, None) ∷ [] → me ≡ (was.0, (0, Some x) ∷ rest was.1) → Enters me n new → Owns (was.0.known.seen ++ entry_by was.0.known.kin x ∷ []) was.0.known.kin

@@ -82,6 +82,7 @@ kept_sound seen kin sound room = record {
   pairs = kept_are kin sound.pairs room;
   own = λ k e there j p at cover. (kept_knows seen seen kin sound.pairs (λ k e there j p at cover. (sound.own k e there j p at cover, slice_get_within seen k e there)) k e there j p at cover).0;
   first = kept_cons kin sound.first;
+  few = sound.few;
 }
 
 pub new_sound : (seen : List Entry) (kin : List (ℕ × ℕ)) → IsSound seen kin → (first_pair kin).1 ≤ 2 ^ 61 → IsSound seen (new_kin kin)
@@ -90,18 +91,20 @@ new_sound seen kin sound room = record {
   pairs = new_are kin sound.pairs room;
   own = λ k e there j p at cover. (new_knows seen seen kin sound.pairs (λ k e there j p at cover. (sound.own k e there j p at cover, slice_get_within seen k e there)) k e there j p at cover).0;
   first = new_cons kin sound.first;
+  few = sound.few;
 }
 
-pub met_sound : (seen : List Entry) (a b : List (ℕ × ℕ)) → IsKin a → IsKin b → IsCons a → IsLegal seen → Owns seen (a ++ b) → IsSound seen (a ++ b)
-met_sound seen a b pairs pairs' first legal own = record {
+pub met_sound : (seen : List Entry) (a b : List (ℕ × ℕ)) → IsKin a → IsKin b → IsCons a → IsLegal seen → Owns seen (a ++ b) → length seen ≤ 2 ^ 62 → IsSound seen (a ++ b)
+met_sound seen a b pairs pairs' first legal own few = record {
   legal = legal;
   pairs = λ j p is. ⊎_elim (λ (l : slice_get a j ≡ Some p). pairs j p l) (λ (i : (n : ℕ) × (slice_get b n ≡ Some p)). pairs' i.0 p i.1) (get_append a b p j is);
   own = own;
   first = both_cons a b first;
+  few = few;
 }
 
 pub first_sound : IsSound [] ((0, 1) ∷ [])
-first_sound = record { legal = λ i e at. absurd (cc (at)); pairs = only; own = λ k e at j p is cover. absurd (cc (at)); first = ((0, 1), [], refl) }
+first_sound = record { legal = λ i e at. absurd (cc (at)); pairs = only; own = λ k e at j p is cover. absurd (cc (at)); first = ((0, 1), [], refl); few = omega arith }
   where
     only : IsKin ((0, 1) ∷ [])
     only zero p at = let q : ℕ × ℕ = (0, 1) in let e : q ≡ p = cc (at) in let pair : IsPair (0, 1) = record { below = omega arith; power = 0; small = omega arith; step = refl } in subst IsPair e pair
@@ -111,4 +114,4 @@ first_sound = record { legal = λ i e at. absurd (cc (at)); pairs = only; own = 
 pub learnt_sound : (a b : View) (joined new : Seated) → IsSound a.known.seen a.known.kin → IsSound b.known.seen b.known.kin → joined.0 ≡ met a b → Learns joined new → IsSound new.0.known.seen new.0.known.kin
 learnt_sound a b joined new sound sound' is learns =
     let kin : new.0.known.kin ≡ a.known.kin ++ b.known.kin = learns.kin ∙ ap (λ (v : View). v.known.kin) is in
-    subst (IsSound new.0.known.seen) (sym kin) (met_sound new.0.known.seen a.known.kin b.known.kin sound.pairs sound'.pairs sound.first learns.legal (subst (Owns new.0.known.seen) kin learns.own))
+    subst (IsSound new.0.known.seen) (sym kin) (met_sound new.0.known.seen a.known.kin b.known.kin sound.pairs sound'.pairs sound.first learns.legal (subst (Owns new.0.known.seen) kin learns.own) learns.few)

@@ -427,7 +427,7 @@ learns id known a b s r len at fits =
           each = each_set log s.views id w (λ j u _ e. kept.each j u e) record { fits = whole log known was.fits; pairs = was.pairs; stage = tt };
         },
       ),
-      record { slots = refl; stage = refl; kin = refl; legal = kept.legal; own = owns log known was.fits; both = (grows log a was.stage.0, grows log b was.stage.1) },
+      record { slots = refl; stage = refl; kin = refl; legal = kept.legal; own = owns log known was.fits; both = (grows log a was.stage.0, grows log b was.stage.1); few = kept.small },
     )
 
 pub starts : (x : Held) → StandsFor x.ledger.value [] → Ruled (opening (0 ∷ 0 ∷ []) (Some x ∷ []) first_view)

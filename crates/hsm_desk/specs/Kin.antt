@@ -49,6 +49,7 @@ pub record IsSound (seen : List Entry) (kin : List (ℕ × ℕ)) : Type 0 where
   pub pairs : IsKin kin
   pub own : Owns seen kin
   pub first : IsCons kin
+  pub few : length seen ≤ 2 ^ 62
 
 -- the history went on, by entries whose numbers the kin does not cover
 pub record Grows (kin : List (ℕ × ℕ)) (was new : List Entry) : Type 0 where

@@ -23,7 +23,7 @@ number p = (first_pair p.kin).0
 abbrev pub step : PassView → ℕ
 step p = (first_pair p.kin).1
 
--- what each pass keeps: its history is legal, its pairs are pairs, and each entry whose number a pair covers has the pair's own number
+-- what each pass keeps: its history is legal and of at most 2 ^ 62 entries, its pairs are pairs, and each entry whose number a pair covers has the pair's own number
 abbrev pub Sound : PassView → Type 0
 Sound p = IsSound p.seen p.kin
 

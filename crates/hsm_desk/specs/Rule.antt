@@ -138,6 +138,7 @@ pub record Learns (m m' : Seated) : Type 0 where
   pub legal : IsLegal m'.0.known.seen
   pub own : Owns m'.0.known.seen m'.0.known.kin
   pub both : GrowsBoth m.0.stage m'.0.known.seen
+  pub few : length m'.0.known.seen ≤ 2 ^ 62
 
 -- a split, and a join
 abbrev pub left : View → View

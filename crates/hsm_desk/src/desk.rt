@@ -1,7 +1,7 @@
 //! The desk and its passes.
 //!
 //! A booking draws a ticket, waits until it is served, takes the ledger, makes its entry, puts the ledger back
-//! and passes the turn on.
+//! and passes the turn on. A lock round all of this lets the threads that wait sleep.
 ghost use Rattle.std.specs.Prelude.{◌≡◌, ℕ, ◌^◌, ◌<◌, ◌≤◌, List, [], ◌∷◌, ◌++◌, length, IfOk};
 ghost use Rattle.hsm_auth.specs.declared.entry.Entry.{Entry};
 ghost use Rattle.hsm_auth.specs.History.{entry, outcome, CanAsk, StandsFor, IsLegal};
@@ -15,12 +15,12 @@ ghost use Rattle.hsm_desk.specs.Passes.{number, step, IsWhole, OnlyKin, Sound, B
 use crate::plays::{Await, Draw, Enter, Kin, Learn, Turns};
 use crate::view::{Held, View};
 use atomic_table::{Seat, Table};
-use hsm_auth::{Ask, Granted, Ledger, MAX_MOMENT};
+use hsm_auth::{Ask, Granted, Ledger};
 use hsm_io::Clock;
 use std::alloc::{AllocError, Global};
 use std::marker::Model;
 use std::snapshot::Snapshot;
-use std::sync::Wait;
+use std::sync::{Mutex, Wait};
 use std::thread;
 
 // The word that counts the entries that were made, and is the ticket whose turn it is.
@@ -40,6 +40,9 @@ type Place = Seat<Option<Held>, View>;
 #[derive(Drop)]
 pub struct Desk {
     board: Board,
+    // It guards nothing, and no proof rests on it. A booking holds it from the drawing of its ticket to the passing on
+    // of its turn, so that other threads sleep until the lock is free, and do not spin until their tickets are served.
+    queue: Mutex<()>,
 }
 
 impl Model for Desk {
@@ -86,7 +89,7 @@ pub struct Booked {
 impl Held {
     // Steps the ledger, and keeps of what the entry is made.
     fn step(&mut self, moment: u64, ask: &Ask) -> Granted
-        requires moment { moment ≤ MAX_MOMENT }
+        requires moment { moment ≤ 2 ^ 40 }
         requires ask { CanAsk ask.now }
         ensures kept { (self.new.moment ≡ moment) × (self.new.ask.value ≡ ask.now) × (self.new.granted.value ≡ result) }
         ensures answer { (h : List Entry) → StandsFor self.old.ledger.value h → result ≡ outcome h moment ask.now }
@@ -132,7 +135,13 @@ impl Desk {
         let Ok((board, seat)) = Table::new(alloc, &[0, 0], slots, &()) else {
             return Err(AllocError);
         };
-        Ok((Desk { board }, Pass { seat }))
+        Ok((
+            Desk {
+                board,
+                queue: Mutex::new(()),
+            },
+            Pass { seat },
+        ))
     }
 
     /// A new pass, which has seen what the given one has and has no entry of its own. The given pass keeps its
@@ -243,11 +252,13 @@ impl Desk {
         ensures sound { Sound pass.new }
         ensures moment { (c : List ℕ) → C.to_come clock.old ≡ Some c → (C.last clock.new ≡ tick c 0) × (C.to_come clock.new ≡ Some (after_now c)) }
     {
+        let queued = self.queue.lock(rt);
         let ticket = self.draw(rt, &mut pass.seat);
         let mut held = self.take(rt, &mut pass.seat, ticket);
         let moment = clock.now();
         let granted = held.step(moment, ask);
         let place = self.enter(&mut pass.seat, held, ticket);
+        drop(queued);
         Booked { place, granted }
     }
 
@@ -258,7 +269,7 @@ impl Desk {
         ensures seen { length pass.seen ≤ result }
         ensures whole { IsWhole pass → result ≡ length pass.seen }
     {
-        let Desk { board } = self;
+        let Desk { board, .. } = self;
         let Pass { seat } = pass;
         let mut closed = board.close_with(seat);
         let served = closed.word(SERVED);

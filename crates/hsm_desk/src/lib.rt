@@ -6,6 +6,3 @@ mod plays;
 mod view;
 
 pub use desk::{Booked, Desk, Pass};
-
-#[cfg(test)]
-mod tests;

@@ -29,7 +29,7 @@ invariant_of-pass g c =
     let may = may_enter known.seen known.kin c.now-moment.result c.args.ask.now c.step-granted.result c.take-held.result.ledger.value x c.take-held.ensures.turn.ledger c.take-held.ensures.turn.legal c.step-granted.ensures.stands c.step-granted.ensures.legal c.step-granted.ensures.kept.0 c.step-granted.ensures.kept.1 c.step-granted.ensures.kept.2 in (
       ap (λ (m : Seated). m.1) c.enter-place.ensures.made,
       ap (λ (m : Seated). m.0.stage) c.enter-place.ensures.made,
-      sound_after c.pass.inside.seat.me.0.known c.draw-ticket.result c.draw-ticket.new.seat.me c.take-held.new.seat.me c.enter-place.new.seat.me c.take-held.result x c.pass.invariant.2 c.draw-ticket.ensures.drawn.0 c.take-held.ensures.turn may.0 c.enter-place.ensures.made c.enter-place.ensures.own,
+      sound_after c.pass.inside.seat.me.0.known c.draw-ticket.result c.draw-ticket.new.seat.me c.take-held.new.seat.me c.enter-place.new.seat.me c.take-held.result x c.pass.invariant.2 c.draw-ticket.ensures.drawn.0 c.draw-ticket.ensures.drawn.1 c.take-held.ensures.turn may.0 c.enter-place.ensures.made c.enter-place.ensures.own,
     )
 
 pub returns-clause-sound : goal.returns-clause-sound
@@ -37,7 +37,7 @@ returns-clause-sound g c =
     let known = c.take-held.new.seat.me.0.known in
     let x : Held = c.step-granted.new.self in
     let may = may_enter known.seen known.kin c.now-moment.result c.args.ask.now c.step-granted.result c.take-held.result.ledger.value x c.take-held.ensures.turn.ledger c.take-held.ensures.turn.legal c.step-granted.ensures.stands c.step-granted.ensures.legal c.step-granted.ensures.kept.0 c.step-granted.ensures.kept.1 c.step-granted.ensures.kept.2 in
-    sound_after c.pass.inside.seat.me.0.known c.draw-ticket.result c.draw-ticket.new.seat.me c.take-held.new.seat.me c.enter-place.new.seat.me c.take-held.result x c.pass.invariant.2 c.draw-ticket.ensures.drawn.0 c.take-held.ensures.turn may.0 c.enter-place.ensures.made c.enter-place.ensures.own
+    sound_after c.pass.inside.seat.me.0.known c.draw-ticket.result c.draw-ticket.new.seat.me c.take-held.new.seat.me c.enter-place.new.seat.me c.take-held.result x c.pass.invariant.2 c.draw-ticket.ensures.drawn.0 c.draw-ticket.ensures.drawn.1 c.take-held.ensures.turn may.0 c.enter-place.ensures.made c.enter-place.ensures.own
 
 pub returns-clause-own : goal.returns-clause-own
 returns-clause-own g c = own_booked c.args.pass.now _ _ _ _ _ (subst (λ (p : PassView). Sound p) c.pass.view_is c.pass.invariant.2) (returns-clause-entry g c)
