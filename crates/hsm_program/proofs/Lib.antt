@@ -8,3 +8,5 @@ pub mod Serving
 pub mod Seats
 pub mod ClearFields
 pub mod Opening
+pub mod Joining
+pub mod Served

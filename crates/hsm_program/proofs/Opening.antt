@@ -37,7 +37,7 @@ map_set f [] k v = refl
 map_set f (x ∷ xs) zero v = refl
 map_set f (x ∷ xs) (suc k) v = ap (λ (rest : List _). f x ∷ rest) (map_set f xs k v)
 
-pushed : {A : Type 0} (xs : List A) (x : A) (k : ℕ) (a : A) → slice_get (xs ++ x ∷ []) k ≡ Some a → (slice_get xs k ≡ Some a) ⊎ ((k ≡ length xs) × (x ≡ a))
+pub pushed : {A : Type 0} (xs : List A) (x : A) (k : ℕ) (a : A) → slice_get (xs ++ x ∷ []) k ≡ Some a → (slice_get xs k ≡ Some a) ⊎ ((k ≡ length xs) × (x ≡ a))
 pushed [] x zero a at = let e : x ≡ a = cc in inr (refl, e)
 pushed [] x (suc k) a at = absurd (cc)
 pushed (y ∷ xs) x zero a at = inl at
@@ -51,10 +51,13 @@ length_push [] x = refl
 length_push (y ∷ xs) x = let h = length_push xs x in omega (arith, h)
 
 -- the first ports with one more
-take_push : (n p : ℕ) (ports : List ℕ) → slice_get ports n ≡ Some p → take (n + 1) ports ≡ take n ports ++ p ∷ []
-take_push n p [] at = absurd (cc)
-take_push zero p (q ∷ ports) at = let e : q ≡ p = cc in ap (λ (x : ℕ). x ∷ []) e
-take_push (suc n) p (q ∷ ports) at = ap (λ (rest : List ℕ). q ∷ rest) (take_push n p ports at)
+take_more : (n p : ℕ) (ports : List ℕ) → slice_get ports n ≡ Some p → take (suc n) ports ≡ take n ports ++ p ∷ []
+take_more n p [] at = absurd (cc)
+take_more zero p (q ∷ ports) at = let e : q ≡ p = cc in ap (λ (x : ℕ). x ∷ []) e
+take_more (suc n) p (q ∷ ports) at = ap (λ (rest : List ℕ). q ∷ rest) (take_more n p ports at)
+
+pub take_push : (n p : ℕ) (ports : List ℕ) → slice_get ports n ≡ Some p → take (n + 1) ports ≡ take n ports ++ p ∷ []
+take_push n p ports at = ap (λ (k : ℕ). take k ports) (let e : n + 1 ≡ suc n = omega arith in e) ∙ take_more n p ports at
 
 rec_split : (P : ℕ → Type 0) (xs : List ℕ) (x : ℕ) → AllByRecursion P (xs ++ x ∷ []) → AllByRecursion P xs × P x
 rec_split P [] x all = (tt, all.0)

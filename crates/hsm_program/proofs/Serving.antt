@@ -222,11 +222,11 @@ of_each setting pass seats before after all P holds k port view served at_port a
     (subst (λ (c : List Served). P k port (view_of s.last) c) s.same (holds k port s.seat s.first s.last s.one))
 
 -- how many messages the lanes count together
-lane_sum : List LaneView → ℕ
+pub lane_sum : List LaneView → ℕ
 lane_sum [] = 0
 lane_sum (lane ∷ lanes) = message_count lane.reports + lane_sum lanes
 
-lane_sum_is : (lanes : List LaneView) → lane_sum lanes ≡ sum_by (λ lane. message_count lane.reports) lanes
+pub lane_sum_is : (lanes : List LaneView) → lane_sum lanes ≡ sum_by (λ lane. message_count lane.reports) lanes
 lane_sum_is lanes = is_sum_by lane_sum (λ lane. message_count lane.reports) refl (λ x xs. refl) lanes
 
 totals : (history : List Entry) (first : ℕ) (lanes : List LaneView)
@@ -243,7 +243,7 @@ totals history first (lane ∷ lanes) each =
     ∙ (let e : (own_total first history + length (own first history)) + lane_sum lanes ≡ own_total first history + (message_count lane.reports + lane_sum lanes) = omega (arith, here) in e)
 
 -- the entries together are as many as the messages that all lanes count
-counted : OwnTotal → (setting : Setting) (pass : PassView) (seats : List PassView) (before after : List LaneState) (all : AllLanes setting pass seats before after)
+pub counted : OwnTotal → (setting : Setting) (pass : PassView) (seats : List PassView) (before after : List LaneState) (all : AllLanes setting pass seats before after)
     → length pass.seen ≡ sum_by (λ lane. message_count lane.reports) (map view_of after)
 counted total setting pass seats before after all =
     let m = module_in setting in

@@ -2,6 +2,7 @@
 
 ghost use Rattle.std.specs.Prelude.{◌≡◌, ◌≤◌, ◌<◌, ◌^◌, [], All, IfSome, IsSome, OnOk, OnErr, length, map};
 ghost use Rattle.std.specs.Vec.{vec_capacity};
+ghost use Rattle.hsm_desk.specs.Passes.{IsWhole, OnlyKin};
 ghost use Rattle.hsm_io.specs.Outside.{Rose};
 ghost use Rattle.hsm_io.specs.Texts.{Appends, AppendsFront};
 ghost use Rattle.hsm_server.specs.Lanes.{is_fault, lane_view, message_count};
@@ -26,6 +27,7 @@ pub(crate) fn end_lanes<D: Door + Send + Drop, C: Clock + Send + Drop, G: Gate +
     requires room { length lanes.items ≤ vec_capacity ends.old }
     ensures ends { ends.new.items ≡ map end_of lanes.items }
     ensures joined { IfSome result (λ pass. AreJoined (map (λ lane. lane.tools.pass) lanes.items) pass) }
+    ensures numbers { IfSome result (λ pass. IsWhole pass → OnlyKin pass) }
     ensures some { 0 < length lanes.items → IsSome result }
 {
     let mut joined: Option<Pass> = None;
@@ -46,6 +48,7 @@ fn join(desk: &Desk, joined: Option<Pass>, pass: Pass) -> Pass
     requires other { pass.desk ≡ desk.now }
     ensures desk { result.desk ≡ desk.now }
     ensures joins { Joins joined pass result }
+    ensures numbers { IsWhole result → OnlyKin result }
 {
     match joined {
         None => {
@@ -54,6 +57,7 @@ fn join(desk: &Desk, joined: Option<Pass>, pass: Pass) -> Pass
         }
         Some(mut mine) => {
             desk.meet(&mut mine, pass);
+            mine.facts();
             mine
         }
     }
