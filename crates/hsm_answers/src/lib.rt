@@ -20,6 +20,3 @@ pub use keys::{
 pub use needs::{host_activity, need_by};
 pub use plans::{Checked, empty_ask, first_of, put_code};
 pub use texts::put_key;
-
-#[cfg(test)]
-mod tests;
