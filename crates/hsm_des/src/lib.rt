@@ -11,6 +11,4 @@ mod merged;
 mod permutations;
 mod plain;
 mod tables;
-#[cfg(test)]
-mod tests;
 mod words;

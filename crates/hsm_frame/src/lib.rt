@@ -167,6 +167,3 @@ fn append(out: &mut ArrayVec<u8, 65537>, bytes: &[u8])
         Err(_) => unreachable!(),
     }
 }
-
-#[cfg(test)]
-mod tests;

@@ -1,7 +1,7 @@
 //! Sealing and opening of keys under LMK pairs and wrapping keys.
 #![tactic(auto)]
 
-ghost use Rattle.std.specs.Prelude.{◌≡◌, ◌+◌, ◌*◌, ◌<◌, ◌≤◌, ◌↔◌, ℕ, List, [], ◌∷◌, length, true, false, not, map, IsTrue, IfOk, slice_index};
+ghost use Rattle.std.specs.Prelude.{◌≡◌, ◌+◌, ◌*◌, ◌<◌, ◌≤◌, ◌↔◌, ℕ, List, [], ◌∷◌, length, true, false, not, map, IsTrue, IfOk, slice_index, Some, codes};
 ghost use Rattle.hsm_types.specs.Table.{variant_of, allows_length};
 ghost use Rattle.hsm_types.specs.Schemes.{scheme_parts};
 ghost use Rattle.hsm_tdes.specs.Tdes.{enciphered, deciphered};
@@ -16,30 +16,45 @@ use arrayvec::ArrayVec;
 use hsm_parity::is_odd;
 use hsm_tdes::{Key, decipher, encipher};
 use hsm_types::{KeyType, Scheme, length_allowed, pair, scheme_parts, variant};
+use std::fmt;
 use std::marker::Model;
+use thiserror::Error;
 
 /// Why a text is no key.
-#[derive(Clone, Copy, Debug, PartialEq, Eq)]
+#[derive(Clone, Copy, Debug, PartialEq, Eq, Error)]
 pub enum OpenFault {
     /// No text of the type has this scheme.
+    #[error("no key text of this type has this scheme")]
     Scheme,
     /// No key of the type has as many parts as the scheme.
+    #[error("no key of this type has so many parts")]
     Length,
     /// An opened part has a byte of even parity.
+    #[error("the key has a byte of even parity")]
     Parity,
 }
 
 /// Why pairs are no LMK set.
-#[derive(Clone, Copy, Debug, PartialEq, Eq)]
+#[derive(Clone, Copy, Debug, PartialEq, Eq, Error)]
 pub enum LmkFault {
     /// This pair, counted from 0, is the first with a byte of even parity.
+    #[error("LMK pair {0} has a byte of even parity")]
     Parity(u64),
 }
 
 /// A set of twenty LMK pairs, each a key of two parts. Contracts see the list of the pairs.
-#[derive(Clone, Copy, Debug, PartialEq, Eq)]
+#[derive(Clone, Copy, PartialEq, Eq)]
 pub struct LmkSet {
     pairs: [Key; 20],
+}
+
+// `{:?}` prints nothing that the set holds.
+impl fmt::Debug for LmkSet {
+    ghost debug_output = { λ _. Some (codes "LmkSet") };
+
+    fn fmt<W: fmt::Write>(&self, f: &mut fmt::Formatter<W>) -> fmt::Result {
+        f.write_str("LmkSet")
+    }
 }
 
 impl Model for LmkSet {
@@ -322,6 +337,3 @@ pub fn open_under(kek: &Key, scheme: Scheme, text: &[u8]) -> Result<Key, OpenFau
     }
     open_odd(kek, scheme, text)
 }
-
-#[cfg(test)]
-mod tests;

@@ -11,6 +11,7 @@ pub mod laws;
 use chaining::{chain_blocks, chain_padded, close};
 use hsm_tdes::{Key, Prepared};
 use std::marker::Model;
+use thiserror::Error;
 
 /// A MAC algorithm of ISO 9797-1.
 #[derive(Clone, Copy, Debug, PartialEq, Eq)]
@@ -37,7 +38,8 @@ pub enum Pad {
 
 /// Data is refused: it is empty, or it fills no whole blocks of 8 bytes where nothing pads it, or it is the last part of
 /// a message and its padding is `Length`. Each call says which of these it refuses.
-#[derive(Clone, Copy, Debug, PartialEq, Eq)]
+#[derive(Clone, Copy, Debug, PartialEq, Eq, Error)]
+#[error("the data is empty or cannot be padded to whole blocks")]
 pub struct Uneven;
 
 /// A MAC that is made in parts. Contracts see the key, the algorithm and the chaining value.
@@ -129,6 +131,3 @@ pub fn whole(key: &Key, alg: Alg, pad: Pad, message: &[u8]) -> Result<u64, Uneve
     let key = Prepared::of(key);
     Ok(close(&key, alg, chain_padded(&key, alg, 0, pad, message)))
 }
-
-#[cfg(test)]
-mod tests;

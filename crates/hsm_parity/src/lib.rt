@@ -38,17 +38,3 @@ pub fn adjusted_byte(byte: u8) -> u8
         byte ^ 1
     }
 }
-
-#[cfg(test)]
-mod tests {
-    use super::*;
-
-    #[test]
-    fn adjusted_part(rt: HostRuntime) {
-        let part = 0x76B8_E0AD_A0F1_3D90u64.to_be_bytes();
-        let odd = adjust(part);
-        assert_eq!(rt; odd, 0x76B9_E0AD_A1F1_3D91u64.to_be_bytes());
-        assert!(rt; is_odd(&odd));
-        assert!(rt; !is_odd(&part));
-    }
-}

@@ -9,6 +9,3 @@ pub mod sizes;
 pub use keys::{KeyForm, KeyText};
 pub use reply::Reply;
 pub use scan::{Bad, Scan};
-
-#[cfg(test)]
-mod tests;

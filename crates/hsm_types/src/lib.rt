@@ -10,6 +10,3 @@ pub use pins::{Pin, all_decimal};
 pub use schemes::scheme_parts;
 pub use table::{by_code, code, length_allowed, pair, variant};
 pub use types::{Act, KeyType, Permit, Permits, Scheme};
-
-#[cfg(test)]
-mod tests;

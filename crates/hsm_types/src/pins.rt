@@ -1,15 +1,25 @@
 //! PINs.
-ghost use Rattle.std.specs.Prelude.{◌≡◌, if◌then◌else◌, true};
+ghost use Rattle.std.specs.Prelude.{◌≡◌, if◌then◌else◌, true, Some, codes};
 ghost use Rattle.std.specs.List.{list_all};
 ghost use Rattle.hsm_types.specs.Pins.{is_decimal, is_pin};
 
+use std::fmt;
 use std::marker::Model;
 
 /// A PIN of 4 to 12 digits. Contracts see the list of its digits, each 0 to 9.
-#[derive(Clone, Copy, Debug, PartialEq, Eq)]
+#[derive(Clone, Copy, PartialEq, Eq)]
 pub struct Pin {
     digits: [u8; 12],
     count: usize,
+}
+
+// `{:?}` prints nothing that the PIN holds.
+impl fmt::Debug for Pin {
+    ghost debug_output = { λ _. Some (codes "Pin") };
+
+    fn fmt<W: fmt::Write>(&self, f: &mut fmt::Formatter<W>) -> fmt::Result {
+        f.write_str("Pin")
+    }
 }
 
 impl Model for Pin {

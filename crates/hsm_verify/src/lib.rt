@@ -8,6 +8,3 @@ mod selection;
 pub use cards::{cvv, pvv};
 pub use offsets::{natural_pin, offset, offset_matches, table_ok};
 pub use selection::select;
-
-#[cfg(test)]
-mod tests;
