@@ -1,3 +1,5 @@
+pub mod DoorLemmas
+pub mod FileLemmas
 pub mod LinkLemmas
 pub mod Passing
 pub mod TextLemmas

@@ -9,3 +9,5 @@ pub mod Moments
 pub mod MemoryForms
 pub mod Places
 pub mod MemoryLinks
+pub mod MemoryBench
+pub mod MemoryGate

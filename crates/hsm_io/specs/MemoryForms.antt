@@ -80,9 +80,9 @@ abbrev pub with_file : List NamedFile → List ℕ → List ℕ → List ℕ →
 with_file files name bytes bad_reads =
     slice_set files (place_of files name) (record { name = name; bytes = bytes; bad_reads = bad_reads })
 
--- A bench in memory: its files, of which the one that is out has lent its bytes; the name of the file that is out; the
+-- The files of a bench in memory: the files, of which the one that is out has lent its bytes; the name of the file that is out; the
 -- numbers of the openings that fail, the number of the next opening, and the count for files; the last name and the bad one.
-pub record BenchState : Type 0 where
+pub record FilesState : Type 0 where
   pub files : List NamedFile
   pub out : Option (List ℕ)
   pub bad_files : List ℕ
@@ -97,7 +97,7 @@ is_out_name None name = false
 is_out_name (Some out) name = bytes_eq out name
 
 -- what a bench in memory tells of its files: all bytes, but of the file that is out
-abbrev pub file_side : BenchState → FileSide
+abbrev pub file_side : FilesState → FileSide
 file_side bench = record {
   bytes_of = λ name. if is_out_name bench.out name then None else option_map (λ file. file.bytes) (file_of bench.files name);
   is_out = is_some bench.out;
@@ -113,13 +113,13 @@ just_opened file = record { stream = unread file.bytes; bad_reads = file.bad_rea
 
 -- An opening gives no file exactly where its number is listed or no file has the name. Else it gives the first file of
 -- the name, of which nothing was read.
-abbrev pub opened_of : BenchState → List ℕ → Option FileState
+abbrev pub opened_of : FilesState → List ℕ → Option FileState
 opened_of bench name =
     if is_listed bench.bad_files bench.calls then None
     else option_map just_opened (file_of bench.files name)
 
 -- what an opening leaves
-abbrev pub after_open : BenchState → List ℕ → Option FileState → BenchState
+abbrev pub after_open : FilesState → List ℕ → Option FileState → FilesState
 after_open bench name None = record bench {
   calls = one_more bench.calls;
   faults = one_more bench.faults;
@@ -139,7 +139,7 @@ files_back None files file = files
 files_back (Some name) files file = with_file files name (file.stream.was_read ++ file.stream.left) file.bad_reads
 
 -- what closing leaves: the file is back, and where a read of it failed the count rose and the last name is the bad one
-abbrev pub after_close : BenchState → FileState → BenchState
+abbrev pub after_close : FilesState → FileState → FilesState
 after_close bench file = record bench {
   files = files_back bench.out bench.files file;
   out = None;

@@ -1,6 +1,6 @@
 -- The place of the file that is out of a bench in memory.
 use Rattle.std.specs.Prelude.{◌≡◌, ◌<◌, ℕ, List, [], length, Option, Some, None, slice_index_or}
-use Rattle.hsm_io.specs.MemoryForms.{NamedFile, BenchState, place_of}
+use Rattle.hsm_io.specs.MemoryForms.{NamedFile, FilesState, place_of}
 
 -- the name of the file at a place
 abbrev pub name_at : List NamedFile → ℕ → List ℕ
@@ -17,5 +17,5 @@ HasPlace files None = Unit {0}
 HasPlace files (Some place) = (place < length files) × (place_of files (name_at files place) ≡ place)
 
 -- the file that is out is among the files of the bench
-abbrev pub HoldsOut : BenchState → Type 0
+abbrev pub HoldsOut : FilesState → Type 0
 HoldsOut bench = (name : List ℕ) → bench.out ≡ Some name → place_of bench.files name < length bench.files
