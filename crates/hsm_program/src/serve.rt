@@ -18,7 +18,7 @@ use crate::run::{Ended, without_lanes};
 use hsm_auth::Ledger;
 use hsm_config::Config;
 use hsm_desk::{Desk, Pass};
-use hsm_io::{Bench, Sink};
+use hsm_io::{Bench, Door, Sink};
 use hsm_server::{LaneEnd, run_lanes};
 use std::alloc::Global;
 use std::sync::Wait;

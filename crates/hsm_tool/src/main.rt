@@ -16,7 +16,15 @@ use std::process::ExitCode;
 use std::{env, io};
 
 fn main(rt: HostRuntime) -> ExitCode {
-    let (status, outcome) = run_command(&rt);
+    let (status, outcome) = match words_of(&rt) {
+        Ok(words) => {
+            let mut bench = SystemBench::new(&rt);
+            let mut out = Output::new(io::writer(&rt));
+            let ended = hsm_run(&rt, rt.alloc(), &words, &mut bench, &mut out);
+            (ended.status, ended.outcome)
+        }
+        Err(refused) => refused,
+    };
     if matches!(status, 2..=5) {
         // Where standard error can't be written, the status alone tells.
         let _ = eprintln!(rt; "{outcome}");
@@ -24,26 +32,22 @@ fn main(rt: HostRuntime) -> ExitCode {
     ExitCode::from(status)
 }
 
-// Runs the command of the program's own words, over the system and standard output. Gives its status and its outcome.
-fn run_command(rt: &HostRuntime) -> (u8, Outcome) {
-    let alloc = rt.alloc();
-    let mut words = Vec::new(alloc);
+// The program's own words, or the status and the outcome where they can't be had.
+fn words_of(rt: &HostRuntime) -> Result<Vec<String>, (u8, Outcome)> {
+    let mut words = Vec::new(rt.alloc());
     match env::args(rt) {
         Ok(args) => {
             for word in args.skip(1) {
                 if words.push(word).is_err() {
-                    return (5, Outcome::Memory);
+                    return Err((5, Outcome::Memory));
                 }
             }
+            Ok(words)
         }
-        Err(error) if error.kind() == io::ErrorKind::OutOfMemory => return (5, Outcome::Memory),
+        Err(error) if error.kind() == io::ErrorKind::OutOfMemory => Err((5, Outcome::Memory)),
         // A word that is no text: then no word can be had.
-        Err(_) => return (2, Outcome::Usage(0)),
+        Err(_) => Err((2, Outcome::Usage(0))),
     }
-    let mut bench = SystemBench::new(rt);
-    let mut out = Output::new(io::writer(rt));
-    let ended = hsm_run(rt, alloc, &words, &mut bench, &mut out);
-    (ended.status, ended.outcome)
 }
 
 #[cfg(test)]
