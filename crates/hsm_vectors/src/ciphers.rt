@@ -13,7 +13,7 @@ const BLOCKS: [(u64, u64, u64); 3] = [
     (0x0101_0101_0101_0101, 0x0000_0000_0000_0000, 0x8CA6_4DE9_C1B1_23A7),
 ];
 
-// Of the three forms of encipherment, two are slower; all agree on a chain of blocks, too.
+// The vectors, and a chain of blocks on which the three forms of encipherment agree.
 #[test]
 fn des(rt: HostRuntime) {
     for (key, block, enciphered) in BLOCKS {
