@@ -14,6 +14,7 @@ use hsm_lmk::LmkSet;
 use hsm_rows::Module;
 use hsm_types::Permits;
 use std::alloc::Global;
+use thiserror::Error;
 use toml::Table;
 
 /// The configuration of the module.
@@ -34,13 +35,16 @@ pub struct Config {
 }
 
 /// Why bytes are no configuration.
-#[derive(Clone, Copy, Debug, PartialEq, Eq)]
+#[derive(Clone, Copy, Debug, PartialEq, Eq, Error)]
 pub enum ConfigFault {
     /// Want of memory.
+    #[error("out of memory")]
     Memory,
     /// The bytes are no TOML document.
+    #[error("the configuration is no TOML document")]
     NotToml,
     /// The document breaks this rule, 1 to 10, and none before it.
+    #[error("the configuration breaks rule {0}")]
     Rule(u64),
 }
 
