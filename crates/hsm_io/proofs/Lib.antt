@@ -1,4 +1,3 @@
-pub mod BenchLemmas
 pub mod LinkLemmas
 pub mod Passing
 pub mod TextLemmas

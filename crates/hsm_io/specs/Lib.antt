@@ -3,6 +3,8 @@ pub mod Outside
 pub mod Connections
 pub mod Texts
 pub mod Files
+pub mod Sides
+pub mod Gates
 pub mod Moments
 pub mod MemoryForms
 pub mod Places
