@@ -116,7 +116,7 @@ one_more_call : (n : ℕ) (moments : List ℕ) → after_now (after_calls n mome
 one_more_call zero moments = refl
 one_more_call (suc n) moments = one_more_call n (after_now moments)
 
-length_push : {A : Type 0} (xs : List A) (x : A) → suc (length xs) ≡ length (xs ++ x ∷ [])
+pub length_push : {A : Type 0} (xs : List A) (x : A) → suc (length xs) ≡ length (xs ++ x ∷ [])
 length_push [] x = refl
 length_push (y ∷ xs) x = ap suc (length_push xs x)
 

@@ -1,31 +1,33 @@
 -- How reads, messages and writes add up over a connection.
-use Rattle.std.proofs.Common.{◌≡◌, ℕ, ◌+◌, ◌-◌, ◌<◌, ◌≤◌, ◌^◌, min, List, [], ◌∷◌, ◌++◌, length, take, drop, flat_map, Option, Some, None, refl, sym, ap, subst, ◌∙◌, append_assoc, append-nil, inl, inr, arith}
+use Rattle.std.proofs.Common.{◌≡◌, ℕ, ◌+◌, ◌-◌, ◌<◌, ◌≤◌, ◌^◌, List, [], ◌∷◌, ◌++◌, length, take, drop, flat_map, Option, Some, None, refl, sym, ap, subst, ◌∙◌, append_assoc, append-nil, inl, inr, arith}
 use Rattle.std.specs.List.{AllByRecursion, AllZip}
 use Rattle.std.proofs.Math.Seq.{take-add}
 use Rattle.std.proofs.lemmas.Grind.{flat_map-append}
-use Rattle.std.proofs.lemmas.List.{take-append-drop, take_all, take_rest}
+use Rattle.std.proofs.lemmas.List.{take-append-drop, take_rest}
 use Rattle.std.proofs.lemmas.List.Elements.{All-append}
 use Rattle.hsm_auth.specs.declared.entry.Ask.{Ask}
 use Rattle.hsm_auth.specs.declared.entry.Granted.{Granted}
 use Rattle.hsm_auth.specs.declared.entry.Entry.{Entry}
 use Rattle.hsm_answers.specs.Messages.{Side, message_answer, message_ask}
 use Rattle.hsm_desk.specs.Passes.{PassView, Books, OwnBooked, Sound}
-use Rattle.hsm_frame.specs.Calls.{Held, IsNotYet}
+use Rattle.hsm_frame.specs.Calls.{IsNotYet}
 use Rattle.hsm_frame.specs.Frames.{Frames, IsMessage, IsShort, IsTail, StreamEnd, Whole, Part, frame}
 use Rattle.hsm_frame.specs.Frames as stream
 use Rattle.hsm_frame.specs.Laws.{HasReading}
 use Rattle.hsm_io.specs.Connections.{Traffic, Exchanges, IsSilent}
+use Rattle.hsm_io.specs.Gates as gates
 use Rattle.hsm_io.specs.Moments.{tick, after_now}
 use Rattle.hsm_rows.specs.declared.settings.Module.{Module}
 use Rattle.hsm_session.specs.declared.plans.Kind.{Kind}
 use Rattle.hsm_session.specs.declared.serving.ConnEnd.{ConnEnd}
 use Rattle.hsm_session.specs.declared.serving.ConnEnd.TheVariants.{Clean, Cut, Short, ReadFault, WriteFault}
 use Rattle.hsm_session.specs.declared.serving.Count.{Count}
-use Rattle.hsm_session.specs.Connections.{Hears, IsEntryFor, Leaves, Says, framed_answers}
+use Rattle.hsm_session.specs.Connections.{Hears, IsEntryFor, Leaves, Says, Scene, framed_answers, scene}
 use Rattle.hsm_session.specs.Lanes.{AreBytes, IsWaiting}
 use Rattle.hsm_session.specs.Plans.{least_for, side_of}
-use Rattle.hsm_session.specs.Serving.{Going, Over, Scene, Sends, SendsFront, Steps, no_entry, one_more, scene}
+use Rattle.hsm_session.specs.Serving.{Going, Holding, Over, Sends, SendsFront, Steps, holding, no_entry, one_more}
 use Rattle.hsm_session.proofs.Answering.{each_more}
+use Rattle.hsm_session.proofs.Gating.{gate_more, gate_none}
 use Rattle.hsm_session.proofs.Makings.{WordsAuthorise, booked_entry, clock_more, clock_none, counts_more, counts_none, hosts_more, hosts_none, makes_more, makes_none, zip_push}
 use Rattle.hsm_session.proofs.Streams.{bytes_right, frames_after}
 
@@ -95,28 +97,27 @@ answers_push m side (first ∷ messages) (e ∷ entries) message placed all =
     ∙ sym (append_assoc (frame (message_answer m side first e.1.granted)) (framed_answers m side messages entries) (frame (message_answer m side message placed.1.granted)))
 
 -- nothing was done yet
-pub going_starts : (m : Module) (kind : Kind) (p : PassView) (last : ℕ) (moments : Option (List ℕ)) (traffic : Option Traffic) → Sound p
-    → Going m kind (scene p last moments traffic) (scene p last moments traffic) [] [] no_entry
-going_starts m kind p last moments traffic sound = record {
+going_starts : (m : Module) (kind : Kind) (lane : ℕ) (s : Scene) → Sound s.pass → Going m kind lane s s (holding [] [] no_entry)
+going_starts m kind lane s sound = record {
   messages = [];
   entries = [];
-  made = makes_none p sound;
+  made = makes_none s.pass sound;
   each = tt;
   valid = tt;
   bytes = λ k d within. absurd (omega arith);
-  clock = clock_none last moments;
+  clock = clock_none s.last s.moments;
+  gate = gate_none lane s.calls;
   counted = counts_none;
   hosts = λ host. hosts_none;
-  told = λ s is. (s, is, [], exchanges_none s, refl);
+  told = λ t is. (t, is, [], exchanges_none t, refl);
 }
 
-pub starts_at : (m : Module) (kind : Kind) (p : PassView) (last : ℕ) (moments : Option (List ℕ)) (traffic : Option Traffic) (held out : List ℕ) (count : Count)
-    → held ≡ [] → out ≡ [] → count ≡ no_entry → Sound p → Going m kind (scene p last moments traffic) (scene p last moments traffic) held out count
-starts_at m kind p last moments traffic held out count unheard unsaid none sound =
-    let s = scene p last moments traffic in
-    subst (λ (z : List ℕ). Going m kind s s z out count) (sym unheard)
-    (subst (λ (z : List ℕ). Going m kind s s [] z count) (sym unsaid)
-    (subst (λ (z : Count). Going m kind s s [] [] z) (sym none) (going_starts m kind p last moments traffic sound)))
+pub starts_at : (m : Module) (kind : Kind) (lane : ℕ) (s : Scene) (held out : List ℕ) (count : Count)
+    → held ≡ [] → out ≡ [] → count ≡ no_entry → Sound s.pass → Going m kind lane s s (holding held out count)
+starts_at m kind lane s held out count unheard unsaid none sound =
+    subst (λ (z : List ℕ). Going m kind lane s s (holding z out count)) (sym unheard)
+    (subst (λ (z : List ℕ). Going m kind lane s s (holding [] z count)) (sym unsaid)
+    (subst (λ (z : Count). Going m kind lane s s (holding [] [] z)) (sym none) (going_starts m kind lane s sound)))
 
 pub waits_at_start : (least : ℕ) (held : List ℕ) → held ≡ [] → IsWaiting least held
 waits_at_start least held none = record {
@@ -125,23 +126,27 @@ waits_at_start least held none = record {
 }
 
 -- a message is booked, and its answer is gathered
-pub going_books : (m : Module) (kind : Kind) (start : Scene) (p q : PassView) (last now : ℕ) (before after : Option (List ℕ)) (traffic : Option Traffic)
+pub going_books : (m : Module) (kind : Kind) (lane : ℕ) (start old new : Scene) (between : Option (List gates.GateCall))
     (message rest out reply : List ℕ) (count : Count) (ask : Ask) (granted : Granted) (place : ℕ) → WordsAuthorise
     → IsMessage (least_for m kind) message → ask ≡ message_ask m (side_of kind) message → reply ≡ message_answer m (side_of kind) message granted
-    → Books p q now ask granted place → OwnBooked p q now ask granted place → Sound q
-    → ((c : List ℕ) → before ≡ Some c → (now ≡ tick c 0) × (after ≡ Some (after_now c)))
-    → Going m kind start (scene p last before traffic) (frame message ++ rest) out count
-    → Going m kind start (scene q now after traffic) rest (out ++ frame reply) (one_more count place)
-going_books m kind start p q last now before after traffic message rest out reply count ask granted place words valid asked answered books own sound ticks g =
-    let placed : ℕ × Entry = booked_entry p now ask granted place in
+    → Books old.pass new.pass new.last ask granted place → OwnBooked old.pass new.pass new.last ask granted place → Sound new.pass
+    → ((c : List ℕ) → old.moments ≡ Some c → (new.last ≡ tick c 0) × (new.moments ≡ Some (after_now c)))
+    → ((c : List gates.GateCall) → old.calls ≡ Some c → between ≡ Some (c ++ gates.before lane count.messages ∷ []))
+    → ((c : List gates.GateCall) → between ≡ Some c → new.calls ≡ Some (c ++ gates.after lane count.messages ∷ []))
+    → new.traffic ≡ old.traffic
+    → Going m kind lane start old (holding (frame message ++ rest) out count)
+    → Going m kind lane start new (holding rest (out ++ frame reply) (one_more count place))
+going_books m kind lane start old new between message rest out reply count ask granted place words valid asked answered books own sound ticks first second same g =
+    let placed : ℕ × Entry = booked_entry old.pass new.last ask granted place in
     record {
       messages = g.messages ++ message ∷ [];
       entries = g.entries ++ placed ∷ [];
-      made = makes_more start.pass p q g.entries now ask granted place g.made books own sound;
+      made = makes_more start.pass old.pass new.pass g.entries new.last ask granted place g.made books own sound;
       each = zip_push (IsEntryFor m (side_of kind)) g.messages g.entries message placed g.each asked;
       valid = each_more (least_for m kind) g.messages message g.valid valid;
       bytes = bytes_right (frame message) rest g.bytes;
-      clock = clock_more start.last last now start.moments before after g.entries placed g.clock refl ticks;
+      clock = clock_more start.last old.last new.last start.moments old.moments new.moments g.entries placed g.clock refl ticks;
+      gate = gate_more lane count.messages start.calls old.calls between new.calls g.entries placed g.gate g.counted.messages first second;
       counted = counts_more count g.entries placed g.counted;
       hosts = hosts_more m kind message g.entries placed words asked g.hosts;
       told = λ s is.
@@ -150,14 +155,18 @@ going_books m kind start p q last now before after traffic message rest out repl
           answers_push m (side_of kind) g.messages g.entries message placed g.each
           ∙ (λ i. t.4 i ++ frame (sym answered i))
           ∙ append_assoc t.2 out (frame reply) in
-          (t.0, t.1, t.2, subst (λ (heard : List ℕ). Exchanges s t.0 heard t.2) (frames_push g.messages message rest) t.3, texts);
+          (t.0, same ∙ t.1, t.2, subst (λ (heard : List ℕ). Exchanges s t.0 heard t.2) (frames_push g.messages message rest) t.3, texts);
     }
 
+-- the scene at which this has passed over the link
+abbrev pub at_traffic : Scene → Option Traffic → Scene
+at_traffic s traffic = scene s.pass s.last s.moments s.calls traffic
+
 -- a part of what is gathered is written
-pub going_sends : (m : Module) (kind : Kind) (start : Scene) (p : PassView) (last : ℕ) (moments : Option (List ℕ)) (before after : Option Traffic)
-    (held out rest : List ℕ) (count : Count) → Sends before after out rest
-    → Going m kind start (scene p last moments before) held out count → Going m kind start (scene p last moments after) held rest count
-going_sends m kind start p last moments before after held out rest count sends g = record {
+pub going_sends : (m : Module) (kind : Kind) (lane : ℕ) (start now : Scene) (traffic : Option Traffic) (held out rest : List ℕ) (count : Count)
+    → Sends now.traffic traffic out rest
+    → Going m kind lane start now (holding held out count) → Going m kind lane start (at_traffic now traffic) (holding held rest count)
+going_sends m kind lane start now traffic held out rest count sends g = record {
   messages = g.messages;
   entries = g.entries;
   made = g.made;
@@ -165,6 +174,7 @@ going_sends m kind start p last moments before after held out rest count sends g
   valid = g.valid;
   bytes = g.bytes;
   clock = g.clock;
+  gate = g.gate;
   counted = g.counted;
   hosts = g.hosts;
   told = λ s is.
@@ -181,23 +191,23 @@ going_sends m kind start p last moments before after held out rest count sends g
 }
 
 -- the same bytes by another name
-pub going_at : (m : Module) (kind : Kind) (start now : Scene) (held same out : List ℕ) (count : Count) → held ≡ same → Going m kind start now held out count → Going m kind start now same out count
-going_at m kind start now held same out count is g = subst (λ (bytes : List ℕ). Going m kind start now bytes out count) is g
+pub going_at : (m : Module) (kind : Kind) (lane : ℕ) (start now : Scene) (held same out : List ℕ) (count : Count) → held ≡ same
+    → Going m kind lane start now (holding held out count) → Going m kind lane start now (holding same out count)
+going_at m kind lane start now held same out count is g = subst (λ (bytes : List ℕ). Going m kind lane start now (holding bytes out count)) is g
 
 -- the reply that was gathered last is written in part, or not
-pub going_gathers : (m : Module) (kind : Kind) (start : Scene) (p : PassView) (last : ℕ) (moments : Option (List ℕ)) (before after : Option Traffic)
-    (held out rest reply shown : List ℕ) (count : Count) → shown ≡ reply → Sends before after (out ++ frame shown) rest
-    → Going m kind start (scene p last moments before) held (out ++ frame reply) count → Going m kind start (scene p last moments after) held rest count
-going_gathers m kind start p last moments before after held out rest reply shown count same sends g =
-    going_sends m kind start p last moments before after held (out ++ frame reply) rest count
-    (subst (λ (text : List ℕ). Sends before after (out ++ frame text) rest) same sends) g
+pub going_gathers : (m : Module) (kind : Kind) (lane : ℕ) (start now : Scene) (traffic : Option Traffic) (held out rest reply shown : List ℕ) (count : Count)
+    → shown ≡ reply → Sends now.traffic traffic (out ++ frame shown) rest
+    → Going m kind lane start now (holding held (out ++ frame reply) count) → Going m kind lane start (at_traffic now traffic) (holding held rest count)
+going_gathers m kind lane start now traffic held out rest reply shown count same sends g =
+    going_sends m kind lane start now traffic held (out ++ frame reply) rest count
+    (subst (λ (text : List ℕ). Sends now.traffic traffic (out ++ frame text) rest) same sends) g
 
 -- a piece is read
-pub going_reads : (m : Module) (kind : Kind) (start : Scene) (p : PassView) (last : ℕ) (moments : Option (List ℕ)) (before after : Option Traffic)
-    (held out piece : List ℕ) (count : Count) → AreBytes piece
-    → ((s : Traffic) → before ≡ Some s → (t : Traffic) × (after ≡ Some t) × Exchanges s t piece [])
-    → Going m kind start (scene p last moments before) held out count → Going m kind start (scene p last moments after) (held ++ piece) out count
-going_reads m kind start p last moments before after held out piece count are reads g = record {
+pub going_reads : (m : Module) (kind : Kind) (lane : ℕ) (start now : Scene) (traffic : Option Traffic) (held out piece : List ℕ) (count : Count) → AreBytes piece
+    → ((s : Traffic) → now.traffic ≡ Some s → (t : Traffic) × (traffic ≡ Some t) × Exchanges s t piece [])
+    → Going m kind lane start now (holding held out count) → Going m kind lane start (at_traffic now traffic) (holding (held ++ piece) out count)
+going_reads m kind lane start now traffic held out piece count are reads g = record {
   messages = g.messages;
   entries = g.entries;
   made = g.made;
@@ -205,6 +215,7 @@ going_reads m kind start p last moments before after held out piece count are re
   valid = g.valid;
   bytes = All-append (λ (b : ℕ). b < 2 ^ 8) held piece g.bytes are;
   clock = g.clock;
+  gate = g.gate;
   counted = g.counted;
   hosts = g.hosts;
   told = λ s is.
@@ -241,14 +252,15 @@ record Closes (least : ℕ) (traffic : Option Traffic) (held out : List ℕ) (en
   says : (said answers : List ℕ) → answers ≡ said ++ out → Says said answers ended
   leaves : (t : Traffic) → traffic ≡ Some t → Leaves t.left ended
 
-over : (m : Module) (kind : Kind) (start now : Scene) (held out : List ℕ) (count : Count) (ended : ConnEnd) → Closes (least_for m kind) now.traffic held out ended
-    → IsSilent start.traffic → Going m kind start now held out count → Over m kind start now count ended
-over m kind start now held out count ended closes silent g = record {
+over : (m : Module) (kind : Kind) (lane : ℕ) (start now : Scene) (held out : List ℕ) (count : Count) (ended : ConnEnd) → Closes (least_for m kind) now.traffic held out ended
+    → IsSilent start.traffic → Going m kind lane start now (holding held out count) → Over m kind lane start now count ended
+over m kind lane start now held out count ended closes silent g = record {
   messages = g.messages;
   entries = g.entries;
   made = g.made;
   each = g.each;
   clock = g.clock;
+  gate = g.gate;
   reported = record { messages = g.counted.messages; first = g.counted.first; last = g.counted.last };
   hosts = g.hosts;
   told = λ s is.
@@ -274,9 +286,9 @@ tail_ends : (least : ℕ) (heard held : List ℕ) (messages : List (List ℕ)) (
 tail_ends least heard held messages end tail valid whole = record { tail = held; whole = whole; each = valid; ends = tail }
 
 -- the input ended behind a whole frame
-pub over_clean : (m : Module) (kind : Kind) (start now : Scene) (count : Count) → ((t : Traffic) → now.traffic ≡ Some t → t.left ≡ [])
-    → IsSilent start.traffic → Going m kind start now [] [] count → Over m kind start now count Clean
-over_clean m kind start now count left = over m kind start now [] [] count Clean (record {
+pub over_clean : (m : Module) (kind : Kind) (lane : ℕ) (start now : Scene) (count : Count) → ((t : Traffic) → now.traffic ≡ Some t → t.left ≡ [])
+    → IsSilent start.traffic → Going m kind lane start now (holding [] [] count) → Over m kind lane start now count Clean
+over_clean m kind lane start now count left = over m kind lane start now [] [] count Clean (record {
   hears = λ heard messages are valid whole. tail_ends (least_for m kind) heard [] messages Whole refl valid whole;
   says = all_said;
   leaves = left;
@@ -287,19 +299,19 @@ part_of least [] some waits = absurd (omega (arith, some))
 part_of least (byte ∷ held) some waits = waits
 
 -- the input ended within a frame
-pub over_cut : (m : Module) (kind : Kind) (start now : Scene) (held : List ℕ) (count : Count) → 0 < length held → IsNotYet (least_for m kind) held
+pub over_cut : (m : Module) (kind : Kind) (lane : ℕ) (start now : Scene) (held : List ℕ) (count : Count) → 0 < length held → IsNotYet (least_for m kind) held
     → ((t : Traffic) → now.traffic ≡ Some t → t.left ≡ [])
-    → IsSilent start.traffic → Going m kind start now held [] count → Over m kind start now count Cut
-over_cut m kind start now held count some waits left = over m kind start now held [] count Cut (record {
+    → IsSilent start.traffic → Going m kind lane start now (holding held [] count) → Over m kind lane start now count Cut
+over_cut m kind lane start now held count some waits left = over m kind lane start now held [] count Cut (record {
   hears = λ heard messages are valid whole. tail_ends (least_for m kind) heard held messages Part (part_of (least_for m kind) held some waits) valid whole;
   says = all_said;
   leaves = left;
 })
 
 -- a short frame came
-pub over_short : (m : Module) (kind : Kind) (start now : Scene) (held : List ℕ) (count : Count) (n : ℕ) → IsShort (least_for m kind) n held
-    → IsSilent start.traffic → Going m kind start now held [] count → Over m kind start now count (Short n)
-over_short m kind start now held count n short = over m kind start now held [] count (Short n) (record {
+pub over_short : (m : Module) (kind : Kind) (lane : ℕ) (start now : Scene) (held : List ℕ) (count : Count) (n : ℕ) → IsShort (least_for m kind) n held
+    → IsSilent start.traffic → Going m kind lane start now (holding held [] count) → Over m kind lane start now count (Short n)
+over_short m kind lane start now held count n short = over m kind lane start now held [] count (Short n) (record {
   hears = λ heard messages are valid whole. tail_ends (least_for m kind) heard held messages (stream.Short n) short valid whole;
   says = all_said;
   leaves = λ t is. tt;
@@ -311,18 +323,18 @@ hears_fault least heard [] messages waits valid whole = inl (tail_ends least hea
 hears_fault least heard (byte ∷ held) messages waits valid whole = inr (tail_ends least heard (byte ∷ held) messages Part waits valid whole)
 
 -- a read failed
-pub over_read_fault : (m : Module) (kind : Kind) (start now : Scene) (held : List ℕ) (count : Count) → IsNotYet (least_for m kind) held
-    → IsSilent start.traffic → Going m kind start now held [] count → Over m kind start now count ReadFault
-over_read_fault m kind start now held count waits = over m kind start now held [] count ReadFault (record {
+pub over_read_fault : (m : Module) (kind : Kind) (lane : ℕ) (start now : Scene) (held : List ℕ) (count : Count) → IsNotYet (least_for m kind) held
+    → IsSilent start.traffic → Going m kind lane start now (holding held [] count) → Over m kind lane start now count ReadFault
+over_read_fault m kind lane start now held count waits = over m kind lane start now held [] count ReadFault (record {
   hears = λ heard messages are valid whole. hears_fault (least_for m kind) heard held messages waits valid whole;
   says = all_said;
   leaves = λ t is. tt;
 })
 
 -- a write failed
-pub over_write_fault : HasReading → (m : Module) (kind : Kind) (start now : Scene) (held out : List ℕ) (count : Count)
-    → IsSilent start.traffic → Going m kind start now held out count → Over m kind start now count WriteFault
-over_write_fault reading m kind start now held out count = over m kind start now held out count WriteFault (record {
+pub over_write_fault : HasReading → (m : Module) (kind : Kind) (lane : ℕ) (start now : Scene) (held out : List ℕ) (count : Count)
+    → IsSilent start.traffic → Going m kind lane start now (holding held out count) → Over m kind lane start now count WriteFault
+over_write_fault reading m kind lane start now held out count = over m kind lane start now held out count WriteFault (record {
   hears = λ heard messages are valid whole.
       let r = reading (least_for m kind) held are in
       (r.0, r.1, frames_after (least_for m kind) heard held messages r.0 r.1 whole valid r.2);
@@ -331,13 +343,8 @@ over_write_fault reading m kind start now held out count = over m kind start now
 })
 
 -- what was done before a part of the work
-pub steps_after : (m : Module) (kind : Kind) (old mid new : Scene) (held fed left out kept gathered : List ℕ) (count counted : Count) (ended : Option ConnEnd)
-    → ((start : Scene) → Going m kind start old held out count → Going m kind start mid fed kept count)
-    → Steps m kind mid new fed left kept gathered count counted ended → Steps m kind old new held left out gathered count counted ended
-steps_after m kind old mid new held fed left out kept gathered count counted None before s = (s.0, λ start g. s.1 start (before start g))
-steps_after m kind old mid new held fed left out kept gathered count counted (Some end) before s = λ start silent g. s start silent (before start g)
-
--- a piece that fits is fed whole
-pub all_fed : (old new : Held) (piece : List ℕ) (taken : ℕ) → taken ≡ min (length piece) (65537 - length old.bytes) → length piece ≤ 65537 - length old.bytes
-    → new ≡ record { least = old.least; bytes = old.bytes ++ take taken piece } → new.bytes ≡ old.bytes ++ piece
-all_fed old new piece taken count fits is = ap (λ (h : Held). h.bytes) is ∙ ap (λ (x : List ℕ). old.bytes ++ x) (take_all taken piece (omega (arith, count, fits)))
+pub steps_after : (m : Module) (kind : Kind) (lane : ℕ) (old mid new : Scene) (first fed last : Holding) (ended : Option ConnEnd)
+    → ((start : Scene) → Going m kind lane start old first → Going m kind lane start mid fed)
+    → Steps m kind lane mid new fed last ended → Steps m kind lane old new first last ended
+steps_after m kind lane old mid new first fed last None earlier s = (s.0, λ start g. s.1 start (earlier start g))
+steps_after m kind lane old mid new first fed last (Some end) earlier s = λ start silent g. s start silent (earlier start g)

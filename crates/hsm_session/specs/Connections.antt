@@ -9,6 +9,7 @@ use Rattle.hsm_desk.specs.Passes.{PassView, Makes}
 use Rattle.hsm_frame.specs.Frames.{Frames, frame, StreamEnd, Whole, Part}
 use Rattle.hsm_frame.specs.Frames as stream
 use Rattle.hsm_io.specs.Connections.{Traffic}
+use Rattle.hsm_io.specs.Gates.{GateCall, gate_calls}
 use Rattle.hsm_io.specs.Moments.{tick, after_calls}
 use Rattle.hsm_io.specs.Outside.{Rose}
 use Rattle.hsm_rows.specs.declared.settings.Module.{Module}
@@ -18,6 +19,18 @@ use Rattle.hsm_session.specs.declared.serving.ConnEnd.{ConnEnd}
 use Rattle.hsm_session.specs.declared.serving.ConnEnd.TheVariants.{Clean, Cut, Short, ReadFault, WriteFault}
 use Rattle.hsm_session.specs.declared.serving.Report.{Report}
 use Rattle.hsm_session.specs.Plans.{least_for, side_of}
+
+-- What a lane and its connection show at one time: the pass, the moment that the clock gave last, and, where told, the
+-- moments to come, the calls that the gate got, and what passed over the link.
+pub record Scene : Type 0 where
+  pub pass : PassView
+  pub last : ℕ
+  pub moments : Option (List ℕ)
+  pub calls : Option (List GateCall)
+  pub traffic : Option Traffic
+
+abbrev pub scene : PassView → ℕ → Option (List ℕ) → Option (List GateCall) → Option Traffic → Scene
+scene pass last moments calls traffic = record { pass = pass; last = last; moments = moments; calls = calls; traffic = traffic }
 
 -- the entry is that of the message: it has its ask
 abbrev pub IsEntryFor : Module → Side → List ℕ → ℕ × Entry → Type 0
@@ -56,6 +69,11 @@ last_moment moment (placed ∷ entries) = last_moment placed.1.moment entries
 pub record AskClock (last_before last_after : ℕ) (before after : Option (List ℕ)) (entries : List (ℕ × Entry)) : Type 0 where
   pub last : last_after ≡ last_moment last_before entries
   pub told : (moments : List ℕ) → before ≡ Some moments → HaveMoments moments entries × (after ≡ Some (after_calls (length entries) moments))
+
+-- Where told, the gate was called before and after each of the entries, in their order, with the number of the lane, and
+-- with that of the entry, counted from 0; and nothing else called it.
+abbrev pub AskGate : ℕ → Option (List GateCall) → Option (List GateCall) → List (ℕ × Entry) → Type 0
+AskGate lane before after entries = (calls : List GateCall) → before ≡ Some calls → after ≡ Some (calls ++ gate_calls lane 0 (length entries))
 
 -- The bytes read are the messages framed, and end as the connection did. After a failed read they may end within a frame,
 -- and after a failed write more messages may follow.
@@ -106,18 +124,19 @@ pub record Reports (report : Report) (entries : List (ℕ × Entry)) : Type 0 wh
   pub first : report.first ≡ first_place entries
   pub last : report.last ≡ last_place None entries
 
--- What serving a connection did. The pass made one entry for each message, in their order, at the clock's moments; where the
--- link tells what passed over it, these are the messages of the bytes read, and what was written are their answers at these
--- entries. A host's messages authorise nothing.
-pub record Serves (m : Module) (kind : Kind) (before after : PassView) (last_before last_after : ℕ) (moments_before moments_after : Option (List ℕ)) (traffic_before traffic_after : Option Traffic) (report : Report) : Type 0 where
+-- What serving a connection of the lane of this number did. The pass made one entry for each message, in their order, at the
+-- clock's moments, and the gate was called around each; where the link tells what passed over it, these are the messages of
+-- the bytes read, and what was written are their answers at these entries. A host's messages authorise nothing.
+pub record Serves (m : Module) (kind : Kind) (lane : ℕ) (before after : Scene) (report : Report) : Type 0 where
   pub messages : List (List ℕ)
   pub entries : List (ℕ × Entry)
-  pub made : Makes before after entries
+  pub made : Makes before.pass after.pass entries
   pub each : AllZip (IsEntryFor m (side_of kind)) messages entries
-  pub clock : AskClock last_before last_after moments_before moments_after entries
+  pub clock : AskClock before.last after.last before.moments after.moments entries
+  pub gate : AskGate lane before.calls after.calls entries
   pub reported : Reports report entries
   pub hosts : kind ≡ Host → AuthoriseNothing entries
-  pub told : (s : Traffic) → traffic_before ≡ Some s → (t : Traffic) × (traffic_after ≡ Some t) × Talks m kind s t messages entries report.ended
+  pub told : (s : Traffic) → before.traffic ≡ Some s → (t : Traffic) × (after.traffic ≡ Some t) × Talks m kind s t messages entries report.ended
 
 -- A connection ends with a fault only where the link's count rose, and by the kind of the call that failed last. With any
 -- other end no call failed.

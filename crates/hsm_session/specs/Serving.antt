@@ -2,7 +2,7 @@
 use Rattle.std.specs.Prelude.{◌≡◌, ℕ, ◌+◌, Bool, List, [], ◌++◌, length, flat_map, Option, Some, None}
 use Rattle.std.specs.List.{AllZip, AllByRecursion}
 use Rattle.hsm_auth.specs.declared.entry.Entry.{Entry}
-use Rattle.hsm_desk.specs.Passes.{PassView, Makes}
+use Rattle.hsm_desk.specs.Passes.{Makes}
 use Rattle.hsm_frame.specs.Frames.{IsMessage, frame}
 use Rattle.hsm_io.specs.Connections.{Traffic, Exchanges, IsSilent}
 use Rattle.hsm_rows.specs.declared.settings.Module.{Module}
@@ -11,19 +11,9 @@ use Rattle.hsm_session.specs.declared.plans.Kind.TheVariants.{Host}
 use Rattle.hsm_session.specs.declared.serving.ConnEnd.{ConnEnd}
 use Rattle.hsm_session.specs.declared.serving.Count.{Count}
 use Rattle.hsm_session.specs.declared.serving.Report.{Report}
-use Rattle.hsm_session.specs.Connections.{AskClock, AuthoriseNothing, EndCause, IsEntryFor, Serves, first_place, framed_answers, last_place}
+use Rattle.hsm_session.specs.Connections.{AskClock, AskGate, AuthoriseNothing, EndCause, IsEntryFor, Scene, Serves, first_place, framed_answers, last_place}
 use Rattle.hsm_session.specs.Lanes.{AreBytes, IsWaiting}
 use Rattle.hsm_session.specs.Plans.{least_for, side_of}
-
--- what a lane and its connection show at one time: the pass, the moment that the clock gave last and those to come, and what passed over the link
-pub record Scene : Type 0 where
-  pub pass : PassView
-  pub last : ℕ
-  pub moments : Option (List ℕ)
-  pub traffic : Option Traffic
-
-abbrev pub scene : PassView → ℕ → Option (List ℕ) → Option Traffic → Scene
-scene pass last moments traffic = record { pass = pass; last = last; moments = moments; traffic = traffic }
 
 -- A part from the front of the text was written, and this is the rest.
 abbrev pub Sends : Option Traffic → Option Traffic → List ℕ → List ℕ → Type 0
@@ -53,39 +43,46 @@ pub record Counts (count : Count) (entries : List (ℕ × Entry)) : Type 0 where
   pub first : count.first ≡ first_place entries
   pub last : count.last ≡ last_place None entries
 
--- What serving did so far: the messages among the bytes read were booked, and these bytes follow them; their answers are what
--- was written and what is gathered.
-pub record Going (m : Module) (kind : Kind) (start now : Scene) (held out : List ℕ) (count : Count) : Type 0 where
+-- what a lane holds of its connection at one time: the bytes that came and were not handed out, the framed replies that were
+-- not written yet, and the count of the entries
+pub record Holding : Type 0 where
+  pub bytes : List ℕ
+  pub out : List ℕ
+  pub count : Count
+
+abbrev pub holding : List ℕ → List ℕ → Count → Holding
+holding bytes out count = record { bytes = bytes; out = out; count = count }
+
+-- What serving did so far on the lane of this number: the messages among the bytes read were booked, and the bytes held
+-- follow them; their answers are what was written and what is gathered.
+pub record Going (m : Module) (kind : Kind) (lane : ℕ) (start now : Scene) (h : Holding) : Type 0 where
   pub messages : List (List ℕ)
   pub entries : List (ℕ × Entry)
   pub made : Makes start.pass now.pass entries
   pub each : AllZip (IsEntryFor m (side_of kind)) messages entries
   pub valid : AllByRecursion (IsMessage (least_for m kind)) messages
-  pub bytes : AreBytes held
+  pub bytes : AreBytes h.bytes
   pub clock : AskClock start.last now.last start.moments now.moments entries
-  pub counted : Counts count entries
+  pub gate : AskGate lane start.calls now.calls entries
+  pub counted : Counts h.count entries
   pub hosts : kind ≡ Host → AuthoriseNothing entries
   pub told : (s : Traffic) → start.traffic ≡ Some s → (t : Traffic) × (now.traffic ≡ Some t) × (said : List ℕ)
-      × Exchanges s t (flat_map frame messages ++ held) said × (framed_answers m (side_of kind) messages entries ≡ said ++ out)
-
--- what this leaves of a connection whose last write failed: some bytes that follow the messages, and some that were not written
-abbrev pub Broken : Module → Kind → Scene → Scene → Count → Type 0
-Broken m kind start now count = (held : List ℕ) × (out : List ℕ) × Going m kind start now held out count
+      × Exchanges s t (flat_map frame messages ++ h.bytes) said × (framed_answers m (side_of kind) messages entries ≡ said ++ h.out)
 
 -- the report of a connection that ended so
 abbrev pub report_of : Count → ConnEnd → Report
 report_of count ended = record { ended = ended; messages = count.messages; first = count.first; last = count.last }
 
 -- what serving did in all
-abbrev pub Over : Module → Kind → Scene → Scene → Count → ConnEnd → Type 0
-Over m kind start now count ended = Serves m kind start.pass now.pass start.last now.last start.moments now.moments start.traffic now.traffic (report_of count ended)
+abbrev pub Over : Module → Kind → ℕ → Scene → Scene → Count → ConnEnd → Type 0
+Over m kind lane start now count ended = Serves m kind lane start now (report_of count ended)
 
 -- What a part of the work did to a connection that nothing had ended: it goes on and waits for more bytes, or it ended.
-abbrev pub Steps : Module → Kind → Scene → Scene → List ℕ → List ℕ → List ℕ → List ℕ → Count → Count → Option ConnEnd → Type 0
-Steps m kind old new held left out gathered count counted None =
-    IsWaiting (least_for m kind) left × ((start : Scene) → Going m kind start old held out count → Going m kind start new left gathered counted)
-Steps m kind old new held left out gathered count counted (Some ended) =
-    (start : Scene) → IsSilent start.traffic → Going m kind start old held out count → Over m kind start new counted ended
+abbrev pub Steps : Module → Kind → ℕ → Scene → Scene → Holding → Holding → Option ConnEnd → Type 0
+Steps m kind lane old new before after None =
+    IsWaiting (least_for m kind) after.bytes × ((start : Scene) → Going m kind lane start old before → Going m kind lane start new after)
+Steps m kind lane old new before after (Some ended) =
+    (start : Scene) → IsSilent start.traffic → Going m kind lane start old before → Over m kind lane start new after.count ended
 
 -- Why a part of the work ended a connection.
 abbrev pub StepCause : ℕ → ℕ → Bool → Option ConnEnd → Type 0

@@ -3,10 +3,10 @@
 ghost use Rattle.std.specs.Prelude.{◌≡◌, ◌≤◌, ◌<◌, ◌+◌, ◌^◌, ◌++◌, List, ℕ, [], length, Option};
 ghost use Rattle.hsm_frame.specs.Frames.{frame};
 ghost use Rattle.hsm_io.specs.Connections.{IsSilent, Traffic};
-ghost use Rattle.hsm_session.specs.Connections.{EndCause, Serves};
+ghost use Rattle.hsm_session.specs.Connections.{EndCause, Scene, Serves, scene};
 ghost use Rattle.hsm_session.specs.Lanes.{AreBytes, IsWaiting};
 ghost use Rattle.hsm_session.specs.Plans.{least_for};
-ghost use Rattle.hsm_session.specs.Serving.{Going, Over, Scene, StepCause, Steps, no_entry, one_more, scene};
+ghost use Rattle.hsm_session.specs.Serving.{Going, StepCause, Steps, holding, no_entry, one_more};
 
 use crate::plans::{Kind, finish, prepare};
 use crate::replies::{gather, send};
@@ -128,8 +128,10 @@ fn book_message<R: Wait, C: Clock, G: Gate, const N: usize>(
     ensures desk { pass.new.desk ≡ pass.old.desk }
     ensures counted { count.new.messages ≤ length pass.new.seen }
     ensures booked { (start : Scene) (traffic : Option Traffic) (rest out : List ℕ)
-        → Going «module».now kind start (scene pass.old (C.last clock.old) (C.to_come clock.old) traffic) (frame message.now ++ rest) out count.old
-        → Going «module».now kind start (scene pass.new (C.last clock.new) (C.to_come clock.new) traffic) rest (out ++ frame reply.new) count.new }
+        → Going «module».now kind lane start (scene pass.old (C.last clock.old) (C.to_come clock.old) (G.calls gate.old) traffic)
+            (holding (frame message.now ++ rest) out count.old)
+        → Going «module».now kind lane start (scene pass.new (C.last clock.new) (C.to_come clock.new) (G.calls gate.new) traffic)
+            (holding rest (out ++ frame reply.new) count.new) }
 {
     words_authorise();
     let plan = prepare(module, kind, message);
@@ -175,15 +177,17 @@ fn answer_messages<R: Wait, K: Link, C: Clock, G: Gate>(
     requires counted { count.old.messages ≤ length tools.old.pass.seen }
     ensures desk { tools.new.pass.desk ≡ tools.old.pass.desk }
     ensures counted { count.new.messages ≤ length tools.new.pass.seen }
-    ensures steps { Steps «module».now kind
-        (scene tools.old.pass (C.last tools.old.clock) (C.to_come tools.old.clock) (K.traffic link.old))
-        (scene tools.new.pass (C.last tools.new.clock) (C.to_come tools.new.clock) (K.traffic link.new))
-        tools.old.frames.bytes tools.new.frames.bytes tools.old.out.items tools.new.out.items count.old count.new result }
+    ensures steps { Steps «module».now kind tools.old.lane
+        (scene tools.old.pass (C.last tools.old.clock) (C.to_come tools.old.clock) (G.calls tools.old.gate) (K.traffic link.old))
+        (scene tools.new.pass (C.last tools.new.clock) (C.to_come tools.new.clock) (G.calls tools.new.gate) (K.traffic link.new))
+        (holding tools.old.frames.bytes tools.old.out.items count.old)
+        (holding tools.new.frames.bytes tools.new.out.items count.new) result }
     ensures cause { StepCause (K.faults link.old) (K.faults link.new) (K.last_was_read link.new) result }
     ensures lane { tools.new.lane ≡ tools.old.lane }
     ensures frames { tools.new.frames.least ≡ tools.old.frames.least }
 {
     has_one_reading();
+    let lane = tools.lane;
     'messages: loop {
         match tools.frames.next() {
             Next::Message(message) => {
@@ -195,7 +199,7 @@ fn answer_messages<R: Wait, K: Link, C: Clock, G: Gate>(
                     &mut tools.pass,
                     &mut tools.clock,
                     &mut tools.gate,
-                    tools.lane,
+                    lane,
                     message,
                     &mut tools.reply,
                     count,
@@ -239,10 +243,11 @@ fn serve_piece<R: Wait, K: Link, C: Clock, G: Gate>(
     requires counted { count.old.messages ≤ length tools.old.pass.seen }
     ensures desk { tools.new.pass.desk ≡ tools.old.pass.desk }
     ensures counted { count.new.messages ≤ length tools.new.pass.seen }
-    ensures steps { Steps «module».now kind
-        (scene tools.old.pass (C.last tools.old.clock) (C.to_come tools.old.clock) (K.traffic link.old))
-        (scene tools.new.pass (C.last tools.new.clock) (C.to_come tools.new.clock) (K.traffic link.new))
-        tools.old.frames.bytes tools.new.frames.bytes tools.old.out.items tools.new.out.items count.old count.new result }
+    ensures steps { Steps «module».now kind tools.old.lane
+        (scene tools.old.pass (C.last tools.old.clock) (C.to_come tools.old.clock) (G.calls tools.old.gate) (K.traffic link.old))
+        (scene tools.new.pass (C.last tools.new.clock) (C.to_come tools.new.clock) (G.calls tools.new.gate) (K.traffic link.new))
+        (holding tools.old.frames.bytes tools.old.out.items count.old)
+        (holding tools.new.frames.bytes tools.new.out.items count.new) result }
     ensures cause { StepCause (K.faults link.old) (K.faults link.new) (K.last_was_read link.new) result }
     ensures lane { tools.new.lane ≡ tools.old.lane }
     ensures frames { tools.new.frames.least ≡ tools.old.frames.least }
@@ -285,8 +290,9 @@ pub fn serve_link<R: Wait, K: Link, C: Clock, G: Gate>(
     requires least { tools.old.frames.least ≡ least_for «module».now kind }
     // Where the link tells, nothing of it was read or written.
     requires silent { IsSilent (K.traffic link.old) }
-    ensures serves { Serves «module».now kind tools.old.pass tools.new.pass (C.last tools.old.clock) (C.last tools.new.clock)
-        (C.to_come tools.old.clock) (C.to_come tools.new.clock) (K.traffic link.old) (K.traffic link.new) result }
+    ensures serves { Serves «module».now kind tools.old.lane
+        (scene tools.old.pass (C.last tools.old.clock) (C.to_come tools.old.clock) (G.calls tools.old.gate) (K.traffic link.old))
+        (scene tools.new.pass (C.last tools.new.clock) (C.to_come tools.new.clock) (G.calls tools.new.gate) (K.traffic link.new)) result }
     ensures cause { EndCause (K.faults link.old) (K.faults link.new) (K.last_was_read link.new) result.ended }
     ensures lane { tools.new.lane ≡ tools.old.lane }
     ensures frames { tools.new.frames.least ≡ tools.old.frames.least }
