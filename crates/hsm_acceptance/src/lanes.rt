@@ -1,8 +1,8 @@
 // Lanes over doors in memory, beside one another over one desk, under set E1.
-ghost use Rattle.std.specs.Prelude.{◌≡◌, ◌≤◌, ◌^◌, [], false, All, IfOk, OnOk, Some};
+ghost use Rattle.std.specs.Prelude.{◌≡◌, ◌≤◌, ◌^◌, [], false, All, IfOk, OnOk, Some, None};
 ghost use Rattle.hsm_io.specs.Connections.{Doorway};
 ghost use Rattle.hsm_io.specs.MemoryLinks.{IsUntouched};
-ghost use Rattle.hsm_server.specs.Lanes.{IsReady, kind_of, lane_state};
+ghost use Rattle.hsm_server.specs.Lanes.{IsReady, lane_state};
 
 use crate::laboratory::{Set, module_of};
 use arrayvec::ArrayVec;
@@ -10,8 +10,8 @@ use hsm_auth::Ledger;
 use hsm_desk::{Desk, Pass};
 use hsm_io::{Clock, Door, Gate, MemClock, MemDoor, MemLink, OpenGate};
 use hsm_rows::Module;
-use hsm_server::{Lane, LaneEnd, run_lanes};
-use hsm_session::{ConnEnd, Kind, least_message};
+use hsm_server::{Lane, LaneEnd, kind_for, run_lanes};
+use hsm_session::{ConnEnd, least_message};
 use std::alloc::{Alloc, AllocError, Global};
 use std::process::Abort;
 use std::sync::Wait;
@@ -84,8 +84,8 @@ fn add<D: Door + Send + Drop, C: Clock + Send + Drop, G: Gate + Send + Drop>(
     requires pass { pass.desk ≡ desk.now }
     requires none_out { D.is_out door ≡ false }
     requires none_taken { (d : Doorway) → D.doorway door ≡ Some d → d.taken ≡ [] }
-    requires ready { All (λ lane. IsReady «module».now desk.now (lane_state D.doorway D.faults D.broken D.is_out C.last C.to_come lane)) lanes.old.items }
-    ensures ready { OnOk result (All (λ lane. IsReady «module».now desk.now (lane_state D.doorway D.faults D.broken D.is_out C.last C.to_come lane)) lanes.new.items) }
+    requires ready { All (λ lane. IsReady «module».now desk.now (lane_state D.doorway D.faults D.broken D.is_out C.last C.to_come G.calls lane)) lanes.old.items }
+    ensures ready { OnOk result (All (λ lane. IsReady «module».now desk.now (lane_state D.doorway D.faults D.broken D.is_out C.last C.to_come G.calls lane)) lanes.new.items) }
 {
     let kind = kind_for(number);
     let least = least_message(module, kind);
@@ -96,16 +96,6 @@ fn add<D: Door + Send + Drop, C: Clock + Send + Drop, G: Gate + Send + Drop>(
     Ok(())
 }
 
-fn kind_for(number: u32) -> Kind
-    ensures { result ≡ kind_of number }
-{
-    if number == 0 {
-        Kind::Console
-    } else {
-        Kind::Host
-    }
-}
-
 // Runs the lanes.
 fn run_all<R, D, C, G>(rt: &R, module: &Module, desk: &Desk, lanes: &mut Vec<Lane<D, C, G>>)
 where
@@ -113,7 +103,7 @@ where
     D: Door + Send,
     C: Clock + Send,
     G: Gate + Send,
-    requires ready { All (λ lane. IsReady «module».now desk.now (lane_state D.doorway D.faults D.broken D.is_out C.last C.to_come lane)) lanes.old.items }
+    requires ready { All (λ lane. IsReady «module».now desk.now (lane_state D.doorway D.faults D.broken D.is_out C.last C.to_come G.calls lane)) lanes.old.items }
     ensures desk { All (λ lane. lane.tools.pass.desk ≡ desk.now) lanes.new.items }
 {
     run_lanes(rt, module, desk, lanes.as_mut_slice())
@@ -178,6 +168,8 @@ struct Meeting<'a> {
 }
 
 impl<'a> Gate for Meeting<'a> {
+    ghost calls = { λ gate. None };
+
     fn before_book(&mut self, _lane: u32, _message: u64) {}
 
     fn after_book(&mut self, _lane: u32, _message: u64) {

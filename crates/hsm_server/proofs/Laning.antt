@@ -8,13 +8,14 @@ use Rattle.std.proofs.lemmas.List.Sums.{sum_by-append}
 use Rattle.hsm_auth.specs.declared.entry.Entry.{Entry}
 use Rattle.hsm_desk.specs.Passes.{Sound}
 use Rattle.hsm_io.specs.Connections.{Breaks, Doorway, Taken, TakesBack, Traffic, silent}
+use Rattle.hsm_io.specs.Gates.{GateCall, gate_calls}
 use Rattle.hsm_rows.specs.declared.settings.Module.{Module}
 use Rattle.hsm_session.specs.declared.plans.Kind.{Kind}
 use Rattle.hsm_session.specs.declared.serving.ConnEnd.{ConnEnd}
 use Rattle.hsm_session.specs.declared.serving.ConnEnd.TheVariants.{Clean, Cut, Short, ReadFault, WriteFault}
 use Rattle.hsm_session.specs.declared.serving.Report.{Report}
-use Rattle.hsm_session.specs.Connections.{EndCause, Serves, Talks}
-use Rattle.hsm_server.specs.Lanes.{LaneState, Served, ServesAll, IsServed, IsToldBy, Tells, all_entries, all_reports, bytes_of, fault_count, is_fault, kind_of, message_count, risen}
+use Rattle.hsm_session.specs.Connections.{EndCause, Scene, Serves, Talks, scene}
+use Rattle.hsm_server.specs.Lanes.{LaneState, Served, ServesAll, IsServed, IsToldBy, Tells, all_calls, all_entries, all_reports, bytes_of, fault_count, is_fault, kind_of, message_count, risen}
 use Rattle.hsm_server.proofs.Joining.{makes_none, makes_both, clock_none, clock_both, nothing_both}
 
 -- one more item in each of two lists
@@ -56,6 +57,12 @@ count_more reports report = sym (
 entries_more : (connections : List Served) (served : Served) → all_entries connections ++ served.entries ≡ all_entries (connections ++ served ∷ [])
 entries_more connections served =
     sym (flat_map-append (λ s. s.entries) connections (served ∷ []) ∙ ap (λ (last : List (ℕ × Entry)). all_entries connections ++ last) (append-nil served.entries))
+
+calls_more : (number : ℕ) (connections : List Served) (served : Served)
+    → all_calls number connections ++ gate_calls number 0 (length served.entries) ≡ all_calls number (connections ++ served ∷ [])
+calls_more number connections served =
+    let of_one : List GateCall = gate_calls number 0 (length served.entries) in
+    sym (flat_map-append (λ s. gate_calls number 0 (length s.entries)) connections (served ∷ []) ∙ ap (λ (last : List GateCall). all_calls number connections ++ last) (append-nil of_one))
 
 reports_more : (connections : List Served) (served : Served) → all_reports connections ++ served.report ∷ [] ≡ all_reports (connections ++ served ∷ [])
 reports_more connections served = sym (map-append (λ s. s.report) connections (served ∷ []))
@@ -99,16 +106,21 @@ serves_none m s sound = record {
   made = makes_none s.pass sound;
   each = λ k served within. absurd (omega (arith, within));
   clock = clock_none s.last s.moments;
+  gate = λ calls is. is ∙ ap (λ (cs : List GateCall). Some cs) (sym (append-nil calls));
   hosts = λ host i placed at. absurd (cc);
   broken = omega arith;
   told = λ d is. (d, is, record { ended = []; taken = sym (append-nil d.taken); came = refl; each = tt });
 }
 
+-- what the lane and a connection over which this passed show
+abbrev pub scene_at : LaneState → Option Traffic → Scene
+scene_at s traffic = scene s.pass s.last s.moments s.calls traffic
+
 -- one more connection
 pub serves_more : (m : Module) (start s t : LaneState) (connections : List Served) (between : Option Doorway) (broken_between : ℕ) (traffic_before traffic_after : Option Traffic)
     (faults_before faults_after : ℕ) (last_was_read : Bool) (report : Report)
     → ServesAll m start s connections
-    → (serves : Serves m (kind_of start.number) s.pass t.pass s.last t.last s.moments t.moments traffic_before traffic_after report)
+    → (serves : Serves m (kind_of start.number) start.number (scene_at s traffic_before) (scene_at t traffic_after) report)
     → EndCause faults_before faults_after last_was_read report.ended → faults_before ≡ 0
     → ((d : Doorway) → s.doorway ≡ Some d → (bytes : List ℕ) × (rest : List (List ℕ)) × (d.to_come ≡ bytes ∷ rest) × (traffic_before ≡ Some (silent bytes)) × (between ≡ Some (record { to_come = rest; taken = d.taken })))
     → TakesBack between t.doorway traffic_after faults_after
@@ -133,6 +145,11 @@ serves_more m start s t connections between broken_between traffic_before traffi
       made = rw (← entries) (makes_both start.pass s.pass t.pass (all_entries connections) serves.entries a.made serves.made);
       each = All-push (IsServed m kind) connections served a.each (record { each = serves.each; reported = serves.reported });
       clock = rw (← entries) (clock_both start.last s.last t.last start.moments s.moments t.moments (all_entries connections) serves.entries a.clock serves.clock);
+      gate = λ calls is.
+          serves.gate _ (a.gate calls is)
+          ∙ ap (λ (cs : List GateCall). Some cs)
+          (append_assoc calls (all_calls start.number connections) (gate_calls start.number 0 (length serves.entries))
+          ∙ ap (λ (rest : List GateCall). calls ++ rest) (calls_more start.number connections served));
       hosts = λ host. rw (← entries) (nothing_both (all_entries connections) serves.entries (a.hosts host) (serves.hosts host));
       broken =
           broken_more start.broken broken_between t.broken (fault_count (all_reports connections)) faults_after (is_fault report.ended) (same ∙ a.broken) breaks shown
@@ -163,7 +180,7 @@ far_none m s sound out fault = record { connections = []; counted = refl; served
 pub far_more : (m : Module) (start s t : LaneState) (count : ℕ) (kind : Kind) (between : Option Doorway) (broken_between : ℕ) (traffic_before traffic_after : Option Traffic)
     (faults_before faults_after : ℕ) (last_was_read : Bool) (report : Report)
     → SoFar m start s count → kind ≡ kind_of start.number
-    → Serves m kind s.pass t.pass s.last t.last s.moments t.moments traffic_before traffic_after report
+    → Serves m kind s.number (scene_at s traffic_before) (scene_at t traffic_after) report
     → EndCause faults_before faults_after last_was_read report.ended → faults_before ≡ 0
     → ((d : Doorway) → s.doorway ≡ Some d → (bytes : List ℕ) × (rest : List (List ℕ)) × (d.to_come ≡ bytes ∷ rest) × (traffic_before ≡ Some (silent bytes)) × (between ≡ Some (record { to_come = rest; taken = d.taken })))
     → TakesBack between t.doorway traffic_after faults_after
@@ -172,7 +189,11 @@ pub far_more : (m : Module) (start s t : LaneState) (count : ℕ) (kind : Kind) 
     → t.is_out ≡ false → t.door_fault ≡ s.door_fault → t.faults ≡ s.faults
     → SoFar m start t (count + 1)
 far_more m start s t count kind between broken_between traffic_before traffic_after faults_before faults_after last_was_read report f is serves cause new comes takes same breaks number accept least reports out fault faults =
-    let of_lane : Serves m (kind_of start.number) s.pass t.pass s.last t.last s.moments t.moments traffic_before traffic_after report = rw (← is) serves in
+    let at_first = scene_at s traffic_before in
+    let at_last = scene_at t traffic_after in
+    let of_lane : Serves m (kind_of start.number) start.number at_first at_last report =
+    subst (λ (n : ℕ). Serves m (kind_of start.number) n at_first at_last report) f.served.number
+    (subst (λ (k : Kind). Serves m k s.number at_first at_last report) is serves) in
     let served : Served = record { messages = of_lane.messages; entries = of_lane.entries; report = report } in
     record {
       connections = f.connections ++ served ∷ [];

@@ -24,5 +24,5 @@ tools_send c g cs gs = declared_send (tools_type c g) (
 pub lane_send : (d c g : RattleType) → IsSend d → IsSend c → IsSend g → IsSend (lane_row d c g)
 lane_send d c g ds cs gs = declared_send (lane_type d c g) (
   search sendable depth 20,
-  (search sendable depth 20, (tools_send c g cs gs, (as_row_send (row_field d) ds, (search (crosses, sendable) depth 20, (search sendable depth 20, tt))))),
+  (tools_send c g cs gs, (as_row_send (row_field d) ds, (search (crosses, sendable) depth 20, (search sendable depth 20, tt)))),
 )

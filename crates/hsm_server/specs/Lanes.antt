@@ -5,6 +5,7 @@ use Rattle.atomic_table.specs.Seated.{TableId}
 use Rattle.hsm_auth.specs.declared.entry.Entry.{Entry}
 use Rattle.hsm_desk.specs.Passes.{PassView, Makes}
 use Rattle.hsm_io.specs.Connections.{Doorway, Taken, silent}
+use Rattle.hsm_io.specs.Gates.{GateCall, gate_calls}
 use Rattle.hsm_io.specs.Outside.{HasCause}
 use Rattle.hsm_rows.specs.declared.settings.Module.{Module}
 use Rattle.hsm_session.specs.declared.plans.Kind.{Kind}
@@ -18,8 +19,9 @@ use Rattle.hsm_server.specs.declared.lane.Lane.{Lane}
 use Rattle.hsm_server.specs.declared.lane.LaneEnd.{LaneEnd}
 
 -- A lane: its number, how many connections it serves at most, the least length of its messages, its pass, the moment that
--- its clock gave last and those to come, what its door tells, how often the door failed, how many connections that the door
--- took back had failed, whether one is out, the reports, and whether the run ended by a failure of the door.
+-- its clock gave last and those to come, the calls that its gate got, what its door tells, how often the door failed, how
+-- many connections that the door took back had failed, whether one is out, the reports, and whether the run ended by a
+-- failure of the door.
 pub record LaneState : Type 0 where
   pub number : ℕ
   pub accept : ℕ
@@ -27,6 +29,7 @@ pub record LaneState : Type 0 where
   pub pass : PassView
   pub last : ℕ
   pub moments : Option (List ℕ)
+  pub calls : Option (List GateCall)
   pub doorway : Option Doorway
   pub faults : ℕ
   pub broken : ℕ
@@ -34,15 +37,16 @@ pub record LaneState : Type 0 where
   pub reports : List Report
   pub door_fault : Bool
 
--- a lane, by what its door and its clock tell
-abbrev pub lane_state : {D C G : Type 0} → (D → Option Doorway) → (D → ℕ) → (D → ℕ) → (D → Bool) → (C → ℕ) → (C → Option (List ℕ)) → Lane D C G → LaneState
-lane_state doorway faults broken is_out last to_come lane = record {
-  number = lane.number;
+-- a lane, by what its door, its clock and its gate tell
+abbrev pub lane_state : {D C G : Type 0} → (D → Option Doorway) → (D → ℕ) → (D → ℕ) → (D → Bool) → (C → ℕ) → (C → Option (List ℕ)) → (G → Option (List GateCall)) → Lane D C G → LaneState
+lane_state doorway faults broken is_out last to_come calls lane = record {
+  number = lane.tools.lane;
   accept = lane.accept;
   least = lane.tools.frames.least;
   pass = lane.tools.pass;
   last = last lane.tools.clock;
   moments = to_come lane.tools.clock;
+  calls = calls lane.tools.gate;
   doorway = doorway lane.door;
   faults = faults lane.door;
   broken = broken lane.door;
@@ -77,6 +81,10 @@ all_entries connections = flat_map (λ served. served.entries) connections
 -- the reports of all these connections, in their order
 abbrev pub all_reports : List Served → List Report
 all_reports connections = map (λ served. served.report) connections
+
+-- the calls of a gate for all these connections of the lane of this number, in their order: the messages of each are counted from 0
+abbrev pub all_calls : ℕ → List Served → List GateCall
+all_calls number connections = flat_map (λ served. gate_calls number 0 (length served.entries)) connections
 
 -- Each message has its entry, and the report counts the entries.
 pub record IsServed (m : Module) (kind : Kind) (served : Served) : Type 0 where
@@ -121,7 +129,8 @@ pub record Tells (m : Module) (kind : Kind) (before after : Doorway) (connection
   pub each : AllZip (IsToldBy m kind) connections ended
 
 -- A lane served these connections, one after another. Its pass made just their entries, for each of which the clock was
--- asked once; a host's authorise nothing. The door counts a failed connection for each report that names a fault.
+-- asked once, and around which the gate was called; a host's authorise nothing. The door counts a failed connection for each
+-- report that names a fault.
 pub record ServesAll (m : Module) (before after : LaneState) (connections : List Served) : Type 0 where
   pub number : after.number ≡ before.number
   pub accept : after.accept ≡ before.accept
@@ -131,6 +140,7 @@ pub record ServesAll (m : Module) (before after : LaneState) (connections : List
   pub made : Makes before.pass after.pass (all_entries connections)
   pub each : All (IsServed m (kind_of before.number)) connections
   pub clock : AskClock before.last after.last before.moments after.moments (all_entries connections)
+  pub gate : (calls : List GateCall) → before.calls ≡ Some calls → after.calls ≡ Some (calls ++ all_calls before.number connections)
   pub hosts : kind_of before.number ≡ Host → AuthoriseNothing (all_entries connections)
   pub broken : after.broken ≡ risen before.broken (fault_count (all_reports connections))
   pub told : (d : Doorway) → before.doorway ≡ Some d → (e : Doorway) × (after.doorway ≡ Some e) × Tells m (kind_of before.number) d e connections

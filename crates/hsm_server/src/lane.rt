@@ -7,10 +7,9 @@ use hsm_session::{Report, Tools};
 /// A door with what its connections are served with, and what became of them.
 #[derive(Drop)]
 pub struct Lane<D, C, G> {
-    /// 0 for the console, from 1 on for hosts.
-    pub number: u32,
     /// How many connections are served at most.
     pub accept: u16,
+    /// What the connections are served with. Its number is the lane's: 0 for the console, from 1 on for hosts.
     pub tools: Tools<C, G>,
     pub door: D,
     /// One report for each connection that was served, in order.

@@ -36,15 +36,15 @@ pub fn kind_for(number: u32) -> Kind
 }
 
 impl<D: Door + Send, C: Clock + Send, G: Gate + Send> Work for Lane<D, C, G> {
-    ghost ready = { λ m desk lane. IsReady m desk (lane_state D.doorway D.faults D.broken D.is_out C.last C.to_come lane) };
+    ghost ready = { λ m desk lane. IsReady m desk (lane_state D.doorway D.faults D.broken D.is_out C.last C.to_come G.calls lane) };
 
     ghost done = { λ m before after. Ran m
-        (lane_state D.doorway D.faults D.broken D.is_out C.last C.to_come before)
-        (lane_state D.doorway D.faults D.broken D.is_out C.last C.to_come after) };
+        (lane_state D.doorway D.faults D.broken D.is_out C.last C.to_come G.calls before)
+        (lane_state D.doorway D.faults D.broken D.is_out C.last C.to_come G.calls after) };
 
     fn work<R: Wait>(&mut self, rt: &R, module: &Module, desk: &Desk) {
         self.tools.pass.facts();
-        let kind = kind_for(self.number);
+        let kind = kind_for(self.tools.lane);
         'connections: for _ in 0..self.accept {
             match self.door.next() {
                 Came::Link(mut link) => {
@@ -103,10 +103,10 @@ where
     D: Door + Send,
     C: Clock + Send,
     G: Gate + Send,
-    requires ready { All (λ lane. IsReady «module».now desk.now (lane_state D.doorway D.faults D.broken D.is_out C.last C.to_come lane)) lanes.old }
+    requires ready { All (λ lane. IsReady «module».now desk.now (lane_state D.doorway D.faults D.broken D.is_out C.last C.to_come G.calls lane)) lanes.old }
     ensures ran { EachLane (λ before after. Ran «module».now
-        (lane_state D.doorway D.faults D.broken D.is_out C.last C.to_come before)
-        (lane_state D.doorway D.faults D.broken D.is_out C.last C.to_come after)) lanes.old lanes.new }
+        (lane_state D.doorway D.faults D.broken D.is_out C.last C.to_come G.calls before)
+        (lane_state D.doorway D.faults D.broken D.is_out C.last C.to_come G.calls after)) lanes.old lanes.new }
     ensures desk { All (λ lane. lane.tools.pass.desk ≡ desk.now) lanes.new }
 {
     run_by_halves(rt, module, desk, lanes)

@@ -28,13 +28,14 @@ impl<D: Door + Send + Drop, C: Clock + Send + Drop, G: Gate + Send + Drop> Lane<
         requires none_out { D.is_out door ≡ false }
         // Where the door tells, no connection was taken back.
         requires none_taken { (d : Doorway) → D.doorway door ≡ Some d → d.taken ≡ [] }
-        ensures made { IfOk result (λ lane. lane_state D.doorway D.faults D.broken D.is_out C.last C.to_come lane ≡ record {
+        ensures made { IfOk result (λ lane. lane_state D.doorway D.faults D.broken D.is_out C.last C.to_come G.calls lane ≡ record {
           number = number;
           accept = accept;
           least = least;
           pass = pass;
           last = C.last clock;
           moments = C.to_come clock;
+          calls = G.calls gate;
           doorway = D.doorway door;
           faults = D.faults door;
           broken = D.broken door;
@@ -42,7 +43,6 @@ impl<D: Door + Send + Drop, C: Clock + Send + Drop, G: Gate + Send + Drop> Lane<
           reports = [];
           door_fault = false;
         }) }
-        ensures named { IfOk result (λ lane. lane.tools.lane ≡ number) }
         ensures handed_back { IfErr result (λ given. given ≡ pass) }
     {
         let Ok(frames) = Frames::open(alloc, least) else {
@@ -52,7 +52,6 @@ impl<D: Door + Send + Drop, C: Clock + Send + Drop, G: Gate + Send + Drop> Lane<
             return Err(pass);
         };
         Ok(Lane {
-            number,
             accept,
             tools: Tools {
                 pass,

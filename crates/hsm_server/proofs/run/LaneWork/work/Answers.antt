@@ -10,5 +10,5 @@ connections-preserved g c =
     let given = c.in-Link.ensures in
     let served = c.serve_link-report.ensures in
     far_more _ _ _ _ _ _ _ _ _ _ _ _ _ _ c.connections.invariant c.kind_for-kind.ensures served.serves served.cause given.new.0 given.comes
-    c.done.ensures.taken given.broken c.done.ensures.broken refl refl served.frames c.in-Ok.ensures.items
+    c.done.ensures.taken given.broken c.done.ensures.broken served.lane refl served.frames c.in-Ok.ensures.items
     c.done.ensures.out refl (c.done.ensures.faults ∙ given.cause.kept refl)
