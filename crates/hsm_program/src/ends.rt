@@ -118,6 +118,7 @@ fn messages_of(reports: &[Report]) -> u64
 }
 
 // Writes the line of a lane.
+#[tactic(auto, unfolding(crate::specs::Serving::lane_line))]
 fn print_lane<D: Door, S: Sink>(number: usize, end: &LaneEnd<D>, out: &mut S) -> Result<(), OutFailed>
     requires { message_count end.now.reports.items < 2 ^ 64 }
     ensures ok { OnOk result (Appends (S.stands_for out.old) (S.stands_for out.new) (lane_line number (lane_view D.doorway D.faults D.broken end.now))) }

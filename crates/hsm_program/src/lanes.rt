@@ -32,7 +32,7 @@ fn ports_of(config: &Config) -> ArrayVec<u16, 65>
 {
     let mut ports = ArrayVec::new();
     ports.push(config.console_port);
-    for port in &config.host_ports {
+    'ports: for port in config.host_ports.as_slice() {
         ports.push(*port);
     }
     ports
