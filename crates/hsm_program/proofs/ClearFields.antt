@@ -111,7 +111,7 @@ not_zero : (n : ℕ) → (suc n == 0) ≡ false
 not_zero n = search rules
 
 of_host : (n : ℕ) → kind_of (suc n) ≡ Host
-of_host n = rw not_zero n refl
+of_host n = let e : kind_of (suc n) ≡ Host = rw (not_zero n) refl in e
 
 -- an entry that authorises is the console's
 console_number : (m : Module) (history : List Entry) (served : List Served) (number j place : ℕ) (entry : Entry) (activity : Activity) (minutes : ℕ) → Known m history number served

@@ -1,5 +1,6 @@
 -- The lines of lanes, one after another.
-use Rattle.std.proofs.Common.{◌≡◌, ℕ, zero, suc, ◌+◌, List, [], ◌∷◌, ◌++◌, length, drop, take, refl, sym, ap, ◌∙◌, append_assoc, append-nil, arith}
+use Rattle.std.proofs.Common.{◌≡◌, ℕ, zero, suc, ◌+◌, Bool, ◌||◌, List, [], ◌∷◌, ◌++◌, length, map, refl, sym, ap, ◌∙◌, append_assoc, append-nil, arith}
+use Rattle.std.specs.List.{list_any}
 use Rattle.hsm_server.specs.Lanes.{LaneView}
 use Rattle.hsm_program.specs.Serving.{lane_line, lane_lines}
 
@@ -18,3 +19,8 @@ lines_append n (first ∷ lanes) later =
     ap (λ (rest : List ℕ). lane_line n first ++ rest)
     (lines_append (n + 1) lanes later ∙ ap (λ (k : ℕ). lane_lines (n + 1) lanes ++ lane_lines k later) (let e : (n + 1) + length lanes ≡ n + suc (length lanes) = omega arith in e))
     ∙ sym (append_assoc (lane_line n first) (lane_lines (n + 1) lanes) (lane_lines (n + suc (length lanes)) later))
+
+-- whether some item of those made passes a test
+pub any_map : {A B : Type 0} (f : A → B) (p : B → Bool) (xs : List A) → list_any p (map f xs) ≡ list_any (λ x. p (f x)) xs
+any_map f p [] = refl
+any_map f p (x ∷ xs) = ap (λ (b : Bool). p (f x) || b) (any_map f p xs)
