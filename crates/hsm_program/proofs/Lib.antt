@@ -12,3 +12,4 @@ pub mod Joining
 pub mod Served
 pub mod Apart
 pub mod Printing
+pub mod LocalLaws

@@ -69,3 +69,9 @@ pub index_at : {A : Type 0} (xs : List A) (k : ℕ) (d a : A) → slice_get xs k
 index_at [] k d a at = absurd (cc)
 index_at (x ∷ xs) zero d a at = cc
 index_at (x ∷ xs) (suc k) d a at = index_at xs k d a at
+
+-- within the list stands the item of the place
+pub stands_at : {A : Type 0} (xs : List A) (k : ℕ) (d : A) → k < length xs → slice_get xs k ≡ Some (slice_index_or xs k d)
+stands_at [] k d less = absurd (omega (arith, less))
+stands_at (x ∷ xs) zero d less = refl
+stands_at (x ∷ xs) (suc k) d less = stands_at xs k d (omega (arith, less))

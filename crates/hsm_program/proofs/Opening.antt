@@ -6,11 +6,14 @@ use Rattle.std.proofs.lemmas.List.Elements.{All-from_recursion, recursion_from_A
 use Rattle.std.proofs.lemmas.Bool.{cases_Bool}
 use Rattle.std.proofs.lemmas.Bool.Decides.{nat_tests}
 use Rattle.atomic_table.specs.Seated.{TableId}
-use Rattle.hsm_desk.specs.Passes.{PassView, first_pass, kept_pass, new_pass}
+use Rattle.hsm_desk.specs.Passes.{PassView, first_pass, kept_pass, new_pass, step}
+use Rattle.hsm_io.specs.Outside.{Rose}
 use Rattle.hsm_io.specs.Sides.{DoorSide, IsNotAmong}
 use Rattle.hsm_rows.specs.declared.settings.Module.{Module}
 use Rattle.hsm_server.specs.Lanes.{LaneState}
-use Rattle.hsm_program.specs.Lanes.{AreLanes, IsNewLane, IsSpan, OthersStay, keeps, next_span, seat, step_of}
+use Rattle.hsm_program.specs.declared.lanes.LanesFault.{LanesFault}
+use Rattle.hsm_program.specs.declared.lanes.LanesFault.TheVariants.{Memory, Door}
+use Rattle.hsm_program.specs.Lanes.{AreLanes, AreRefused, IsRefused, IsNewLane, IsSpan, OthersStay, keeps, next_span, seat, step_of}
 use Rattle.hsm_program.proofs.Lists.{item_at, within}
 
 -- ---- lists
@@ -282,3 +285,72 @@ open_first m accept moments ports desk before after port pass new at_port none f
         (subst (λ (l : LaneState). IsNewLane m accept moments (before.connections port) 0 (seat desk 1 1 0) l) l_is
         (subst (λ (q : PassView). IsNewLane m accept moments (before.connections port) 0 q new) first is_new))
     first_lane (suc k) p lane at_p at_lane = absurd (cc)
+
+-- ---- the lane from whose pass the next one is split
+
+step_most : (span count k : ℕ) → step_of span count k ≤ 2 * span
+step_most span count k = grind (arith, nat_tests)
+
+-- the lanes so far by the span of the next one, the lane from whose pass that is split, and its pass
+pub record IsSource (m : Module) (accept : ℕ) (moments : Option (List ℕ)) (ports : List ℕ) (desk : TableId) (before now : DoorSide) (span number : ℕ) (lanes : List LaneState) (from : LaneState) : Type 0 where
+  pub opened : OpenTo m accept moments ports desk before now span number lanes
+  pub below : number < 2 * span
+  pub at_from : slice_get lanes (number - span) ≡ Some from
+  pub of_desk : from.pass.desk ≡ desk
+  pub few : step from.pass ≤ 2 * number
+
+-- the number of that lane
+pub place : (m : Module) (accept : ℕ) (moments : Option (List ℕ)) (ports : List ℕ) (desk : TableId) (before now : DoorSide) (last span number : ℕ) (lanes : List LaneState)
+    → OpenTo m accept moments ports desk before now last number lanes → span ≡ next_span last number → (span ≤ number) × (number - span < length lanes)
+place m accept moments ports desk before now last span number lanes opened is =
+    let next : IsNextSpan span number = subst (λ (n : ℕ). IsNextSpan n number) (sym is) (span_next last number opened.is_span) in
+    let least = next.is_span.least in
+    let below = next.below in
+    let count = opened.count in
+    (least, omega (arith, least, below, count))
+
+pub source : (m : Module) (accept : ℕ) (moments : Option (List ℕ)) (ports : List ℕ) (desk : TableId) (before now : DoorSide) (last span number : ℕ) (lanes : List LaneState) (from : LaneState)
+    → OpenTo m accept moments ports desk before now last number lanes → span ≡ next_span last number → number < length ports → slice_get lanes (number - span) ≡ Some from
+    → IsSource m accept moments ports desk before now span number lanes from
+source m accept moments ports desk before now last span number lanes from opened is less at_from =
+    let next : IsNextSpan span number = subst (λ (n : ℕ). IsNextSpan n number) (sym is) (span_next last number opened.is_span) in
+    let least = next.is_span.least in
+    let again : OpenTo m accept moments ports desk before now span number lanes =
+        subst (λ (n : ℕ). OpenTo m accept moments ports desk before now n number lanes) (sym is) (respan m accept moments ports desk before now last number lanes opened) in
+    let port = item_at ports (number - span) (omega (arith, less, least)) in
+    let seated : from.pass ≡ seat desk span number (number - span) = (again.each (number - span) port.0 from port.1 at_from).seated in
+    let most = step_most span number (number - span) in
+    let steps : step from.pass ≡ step_of span number (number - span) = ap step seated in
+    record {
+      opened = again;
+      below = next.below;
+      at_from = at_from;
+      of_desk = ap (λ (p : PassView). p.desk) seated;
+      few = omega (arith, steps, most, least);
+    }
+
+-- ---- the end
+
+-- all lanes are open
+pub all_open : (m : Module) (accept : ℕ) (moments : Option (List ℕ)) (ports : List ℕ) (desk : TableId) (before now : DoorSide) (span number : ℕ) (lanes : List LaneState)
+    → OpenTo m accept moments ports desk before now span number lanes → number ≡ length ports → AreLanes m accept moments before.connections ports desk lanes
+all_open m accept moments ports desk before now span number lanes opened is = record {
+  count = opened.count ∙ is;
+  span = span;
+  is_span = subst (λ (n : ℕ). IsSpan span n) (sym opened.count) opened.is_span;
+  each = λ k port lane at_port at_lane.
+      subst (λ (n : ℕ). IsNewLane m accept moments (before.connections port) k (seat desk span n k) lane) (sym opened.count) (opened.each k port lane at_port at_lane);
+}
+
+-- the door of the next lane is refused
+pub refused_next : (m : Module) (accept : ℕ) (moments : Option (List ℕ)) (ports : List ℕ) (desk : TableId) (before now after : DoorSide) (span number port : ℕ) (lanes : List LaneState) (fault : LanesFault)
+    → OpenTo m accept moments ports desk before now span number lanes → slice_get ports number ≡ Some port → after.asked ≡ now.asked ++ port ∷ []
+    → IsRefused number port now after fault → AreRefused ports before after fault
+refused_next m accept moments ports desk before now after span number port lanes Memory opened at_port asks refused = tt
+refused_next m accept moments ports desk before now after span number port lanes (Door lane) opened at_port asks refused =
+    let asked : after.asked ≡ take (number + 1) ports = asks ∙ ap (λ (front : List ℕ). front ++ port ∷ []) opened.asked ∙ sym (take_push number port ports at_port) in
+    (port,
+    subst (λ (n : ℕ). slice_get ports n ≡ Some port) (sym refused.0) at_port,
+    subst (λ (n : ℕ). after.asked ≡ take (n + 1) ports) (sym refused.0) asked,
+    refused.1,
+    subst (λ (n : ℕ). Rose n after.faults) opened.faults refused.2)

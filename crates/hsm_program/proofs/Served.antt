@@ -1,5 +1,5 @@
 -- The lanes that were opened, served and joined.
-use Rattle.std.proofs.Common.{◌≡◌, ℕ, zero, suc, ◌+◌, ◌<◌, ◌≤◌, ◌^◌, List, [], ◌∷◌, length, map, flat_map, All, sum_by, slice_get, slice_index_or, Option, Some, refl, sym, ap, subst, ◌∙◌, arith}
+use Rattle.std.proofs.Common.{◌≡◌, ℕ, zero, suc, ◌+◌, ◌<◌, ◌≤◌, ◌^◌, List, [], ◌∷◌, length, map, flat_map, All, sum_by, slice_get, slice_index_or, Option, Some, None, IfSome, IsSome, refl, sym, ap, subst, ◌∙◌, arith}
 use Rattle.std.specs.List.{AllZip}
 use Rattle.std.proofs.lemmas.List.{length-map}
 use Rattle.atomic_table.specs.Seated.{TableId}
@@ -10,7 +10,8 @@ use Rattle.hsm_config.specs.Configs.{module_of, ports_of}
 use Rattle.hsm_desk.specs.Passes.{PassView, IsWhole, OnlyKin, number}
 use Rattle.hsm_io.specs.Sides.{DoorSide, SeedSide}
 use Rattle.hsm_rows.specs.declared.settings.Module.{Module}
-use Rattle.hsm_server.specs.Lanes.{EachLane, LaneState, LaneView, Ran, message_count}
+use Rattle.hsm_server.specs.Lanes.{EachLane, IsReady, LaneState, LaneView, Ran, kind_of, message_count}
+use Rattle.hsm_session.specs.Plans.{least_for}
 use Rattle.hsm_program.specs.Headline.{Headline, Setting, module_in}
 use Rattle.hsm_program.specs.Lanes.{AreJoined, AreLanes, IsNewLane, IsSpan, seat, step_of}
 use Rattle.hsm_program.specs.Serving.{HasCauses, ServedBy}
@@ -24,7 +25,7 @@ abbrev pub pass_of : LaneState → PassView
 pass_of lane = lane.pass
 
 -- what ran item by item, where it did lane by lane
-ran_zip : {L : Type 0} (m : Module) (S : L → LaneState) (xs ys : List L) → length ys ≡ length xs
+pub ran_zip : {L : Type 0} (m : Module) (S : L → LaneState) (xs ys : List L) → length ys ≡ length xs
     → EachLane (λ before after. Ran m (S before) (S after)) xs ys → AllZip (Ran m) (map S xs) (map S ys)
 ran_zip m S xs ys same ran = zip_of_each (Ran m) (map S xs) (map S ys) (length-map xs S ∙ sym same ∙ sym (length-map ys S)) (λ k a b at there.
     let x = map_from S xs k a at in
@@ -146,3 +147,44 @@ served_by total there every words clear config doors doors_after seeds moments d
       headline = headline total there every words clear setting pass (map pass_of before) before after all;
       causes = causes setting pass (map pass_of before) before after all;
     }
+
+-- each new lane is ready to be served
+pub ready : (m : Module) (accept : ℕ) (moments : Option (List ℕ)) (to_come : ℕ → Option (List (List ℕ))) (ports : List ℕ) (desk : TableId) (lanes : List LaneState)
+    → AreLanes m accept moments to_come ports desk lanes → (k : ℕ) (lane : LaneState) → slice_get lanes k ≡ Some lane → IsReady m desk lane
+ready m accept moments to_come ports desk lanes are k lane at =
+    let port = item_at ports k (let h = within lanes k lane at in omega (arith, h, are.count)) in
+    let new = are.each k port.0 lane port.1 at in
+    record {
+      least = new.least ∙ ap (λ (n : ℕ). least_for m (kind_of n)) (sym new.numbered);
+      of_desk = ap (λ (p : PassView). p.desk) new.seated;
+      none_out = new.none_out;
+      no_report = new.no_report;
+      no_fault = new.no_fault;
+    }
+
+-- what is made of what is made of the items
+pub map_twice : {A B C : Type 0} (f : A → B) (g : B → C) (xs : List A) → map g (map f xs) ≡ map (λ x. g (f x)) xs
+map_twice f g [] = refl
+map_twice f g (x ∷ xs) = ap (λ (rest : List _). g (f x) ∷ rest) (map_twice f g xs)
+
+-- where the lanes' passes were joined into one, the lanes were served
+pub served_some : OwnTotal → OwnThere → OwnEvery → WordsAuthorise → ClearWhereGranted
+    → (config : Config) (doors doors_after : DoorSide) (seeds : SeedSide) (moments : Option (List ℕ)) (desk : TableId) (before after : List LaneState) (pass : Option PassView)
+    → AreLanes (module_of config seeds.last_seed) config.accept moments doors.connections (ports_of config) desk before
+    → AllZip (Ran (module_of config seeds.last_seed)) before after
+    → IfSome pass (λ p. AreJoined (map pass_of after) p) → IfSome pass (λ p. IsWhole p → OnlyKin p)
+    → doors_after.asked ≡ ports_of config
+    → IfSome pass (λ p. ServedBy doors moments seeds doors_after (map view_of after) p config)
+served_some total there every words clear config doors doors_after seeds moments desk before after None lanes ran joined numbers asked = tt
+served_some total there every words clear config doors doors_after seeds moments desk before after (Some pass) lanes ran joined numbers asked =
+    served_by total there every words clear config doors doors_after seeds moments desk before after pass (record { lanes = lanes; ran = ran; joined = joined; numbers = numbers }) asked
+
+-- and the messages of each are few
+pub few_some : OwnTotal → (setting : Setting) (desk : TableId) (before after : List LaneState) (pass : Option PassView)
+    → AreLanes (module_in setting) setting.config.accept setting.moments setting.to_come (ports_of setting.config) desk before
+    → AllZip (Ran (module_in setting)) before after
+    → IfSome pass (λ p. AreJoined (map pass_of after) p) → IfSome pass (λ p. IsWhole p → OnlyKin p) → IsSome pass
+    → (k : ℕ) (view : LaneView) → slice_get (map view_of after) k ≡ Some view → message_count view.reports ≤ 2 ^ 62
+few_some total setting desk before after None lanes ran joined numbers some k view at = absurd (cc)
+few_some total setting desk before after (Some pass) lanes ran joined numbers some k view at =
+    few_messages total setting desk before after pass (record { lanes = lanes; ran = ran; joined = joined; numbers = numbers }) k view at

@@ -9,18 +9,21 @@ ghost use Rattle.hsm_program.specs.Lanes.{AreRefused};
 ghost use Rattle.hsm_program.specs.Runs.{AnswersConfig, WritesNothing};
 ghost use Rattle.hsm_program.specs.Serving.{AnswersServe, HasServed, IsListenFault, IsServeStatus, IsThere, ServedBy, has_lanes, lane_views};
 ghost use Rattle.hsm_config.specs.Configs.{ports_of};
-ghost use Rattle.hsm_server.specs.Lanes.{message_count};
+ghost use Rattle.hsm_rows.specs.declared.settings.Module.{Module};
+ghost use Rattle.hsm_server.specs.Lanes.{EachLane, IsReady, Ran, lane_state, message_count};
 
 use crate::ends::{end_lanes, print_lanes, status_of};
 use crate::lanes::{LanesFault, open_lanes};
 use crate::local::read_config;
 use crate::outcome::Outcome;
 use crate::run::{Ended, without_lanes};
-use hsm_auth::Ledger;
+use hsm_answers::{clear_where_granted, words_authorise};
+use hsm_auth::{Ledger, own_entries};
 use hsm_config::Config;
 use hsm_desk::{Desk, Pass};
-use hsm_io::{Bench, Door, Sink};
-use hsm_server::{LaneEnd, run_lanes};
+use hsm_io::{Bench, Clock, Door, Gate, Sink};
+use hsm_rows::Module;
+use hsm_server::{Lane, LaneEnd, run_lanes};
 use std::alloc::Global;
 use std::sync::Wait;
 use std::thread::Threads;
@@ -29,6 +32,24 @@ use std::thread::Threads;
 struct Over<D> {
     pass: Option<Pass>,
     ends: Vec<LaneEnd<D>>,
+}
+
+// Serves all lanes to their ends.
+fn run_all<Rt, D, C, G>(rt: &Rt, module: &Module, desk: &Desk, lanes: &mut Vec<Lane<D, C, G>>)
+where
+    Rt: Threads + Wait + Sync,
+    D: Door + Send,
+    C: Clock + Send,
+    G: Gate + Send,
+    requires ready { All (λ lane. IsReady «module».now desk.now
+        (lane_state D.doorway D.faults D.broken D.is_out C.last C.to_come G.calls lane)) lanes.old.items }
+    ensures ran { EachLane (λ before after. Ran «module».now
+        (lane_state D.doorway D.faults D.broken D.is_out C.last C.to_come G.calls before)
+        (lane_state D.doorway D.faults D.broken D.is_out C.last C.to_come G.calls after)) lanes.old.items lanes.new.items }
+    ensures desk { All (λ lane. lane.tools.pass.desk ≡ desk.now) lanes.new.items }
+    ensures count { length lanes.new.items ≡ length lanes.old.items }
+{
+    run_lanes(rt, module, desk, lanes.as_mut_slice());
 }
 
 // Opens the lanes of a configuration, and serves them to their ends.
@@ -66,8 +87,11 @@ where
     let Ok(mut ends) = Vec::with_capacity(alloc, lanes.len()) else {
         return Err(LanesFault::Memory);
     };
-    run_lanes(rt, &module, &desk, lanes.as_mut_slice());
+    run_all(rt, &module, &desk, &mut lanes);
     let pass = end_lanes(&desk, lanes, &mut ends);
+    own_entries();
+    words_authorise();
+    clear_where_granted();
     Ok(Over { pass, ends })
 }
 
