@@ -1,11 +1,10 @@
 -- What a call for a door does to the doors of a bench in memory.
-use Rattle.std.proofs.Common.{◌≡◌, ◌⊎◌, ◌<◌, ◌≤◌, ◌+◌, ◌-◌, ◌^◌, ◌∙◌, ◌++◌, ◌∷◌, [], ℕ, zero, suc, min, List, All, length, map, take, drop, find, get_or, Bool, true, false, ◌&&◌, ◌||◌, cond, eqb, not, Option, Some, None, option_map, MatchOption, refl, sym, ap, ap₂, subst, arith, inl, inr, position}
+use Rattle.std.proofs.Common.{◌≡◌, ◌<◌, ◌≤◌, ◌+◌, ◌-◌, ◌^◌, ◌∙◌, ◌++◌, ◌∷◌, [], ℕ, suc, min, List, All, length, map, take, drop, find, get_or, Bool, true, false, ◌&&◌, ◌||◌, cond, eqb, not, Option, Some, None, option_map, refl, sym, ap, ap₂, subst, arith, inl, inr, position}
 use Rattle.std.specs.List.{position_or_len, list_any, slice_get}
 use Rattle.std.proofs.lemmas.Grind.{common_steps}
-use Rattle.std.proofs.lemmas.Bool.{cases_Bool, eqb-true, eq-eqb, not-true, not_from_false}
+use Rattle.std.proofs.lemmas.Bool.{cases_Bool, eqb-true, not-true, not_from_false}
 use Rattle.std.proofs.lemmas.List.Elements.{All-append, All-drop, All-take}
 use Rattle.std.proofs.lemmas.List.Folds.{find_at}
-use Rattle.std.proofs.lemmas.List.Quantifiers.{position-Some}
 use Rattle.hsm_io.specs.Connections.{Taken}
 use Rattle.hsm_io.specs.Sides.{DoorOpened, DoorRefused}
 use Rattle.hsm_io.specs.MemoryForms.{is_listed, one_more}

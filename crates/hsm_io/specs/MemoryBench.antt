@@ -1,5 +1,5 @@
 -- A bench in memory: what it holds beside its files, and what each call answers and leaves.
-use Rattle.std.specs.Prelude.{◌≡◌, ℕ, ◌+◌, ◌==◌, List, [], ◌∷◌, ◌++◌, find, Bool, true, false, ◌&&◌, not, if◌then◌else◌, Option, Some, None, option_map, bytes_eq}
+use Rattle.std.specs.Prelude.{◌≡◌, ℕ, ◌==◌, List, [], ◌∷◌, ◌++◌, find, Bool, true, false, ◌&&◌, not, if◌then◌else◌, Option, Some, None, option_map, bytes_eq}
 use Rattle.std.specs.List.{list_any}
 use Rattle.hsm_io.specs.Sides.{SeedSide, DoorSide}
 use Rattle.hsm_io.specs.MemoryForms.{one_more, is_listed, NamedFile, FilesState}

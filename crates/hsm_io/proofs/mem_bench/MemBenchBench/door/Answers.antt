@@ -1,4 +1,4 @@
-use Rattle.std.proofs.Common.{◌≡◌, ◌<◌, ◌^◌, Option, Some, None, MatchOption, List, ℕ, All, Bool, true, ap, subst}
+use Rattle.std.proofs.Common.{◌≡◌, ◌<◌, ◌^◌, Option, Some, None, MatchOption, ℕ, All, true, ap, subst}
 use Rattle.hsm_io.specs.Sides.{DoorOpened, DoorRefused}
 use Rattle.hsm_io.specs.MemoryLinks.{DoorState, doorway_of}
 use Rattle.hsm_io.specs.MemoryBench.{DoorsState, BenchState, IsNewDoor, ports_differ, door_side, door_of, after_door}
