@@ -129,9 +129,9 @@ fn book_message<R: Wait, C: Clock, G: Gate, const N: usize>(
     ensures counted { count.new.messages ≤ length pass.new.seen }
     ensures booked { (start : Scene) (traffic : Option Traffic) (rest out : List ℕ)
         → Going «module».now kind lane start (scene pass.old (C.last clock.old) (C.to_come clock.old) (G.calls gate.old) traffic)
-            (holding (frame message.now ++ rest) out count.old)
+        (holding (frame message.now ++ rest) out count.old)
         → Going «module».now kind lane start (scene pass.new (C.last clock.new) (C.to_come clock.new) (G.calls gate.new) traffic)
-            (holding rest (out ++ frame reply.new) count.new) }
+        (holding rest (out ++ frame reply.new) count.new) }
 {
     words_authorise();
     let plan = prepare(module, kind, message);
