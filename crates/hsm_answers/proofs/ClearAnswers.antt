@@ -7,7 +7,6 @@ use Rattle.std.proofs.lemmas.Option.{slice_get_within}
 use Rattle.circular_buffer.proofs.Places.{slice_get-drop, slice_get-take}
 use Rattle.std.specs.Str.{bytes_eq}
 use Rattle.hsm_auth.specs.declared.activity.Activity.{Activity}
-use Rattle.hsm_auth.specs.declared.entry.Ask.{Ask}
 use Rattle.hsm_auth.specs.declared.entry.Ask.TheVariants as ask
 use Rattle.hsm_auth.specs.declared.entry.Entry.{Entry}
 use Rattle.hsm_auth.specs.declared.entry.Grant.{Grant}

@@ -19,8 +19,8 @@ use Rattle.hsm_desk.specs.declared.view.Held.{Held}
 use Rattle.hsm_desk.specs.declared.view.Stage.{Stage}
 use Rattle.hsm_desk.specs.declared.view.Stage.TheVariants.{Idle, Waiting, Turn, Met}
 use Rattle.hsm_desk.specs.Totals.{total, one_if, between}
-use Rattle.hsm_desk.specs.Kin.{Covers, covering, part, IsPair, IsKin, IsCons, first_pair, Knows, Owns, Grows, Fits}
-use Rattle.hsm_desk.specs.Rule.{knowing, viewed, waits_at, ticket_at, turn_at, waits, has_ticket, has_turn, covers, weight, AtStage, Stands, Kept, Ruled, first_view, Draws, Awaits, entry_by, Enters, Learns, left, right, longer, met, spent}
+use Rattle.hsm_desk.specs.Kin.{Covers, covering, part, IsPair, IsKin, IsCons, first_pair, Knows, Owns, Grows, IsPartOf}
+use Rattle.hsm_desk.specs.Rule.{knowing, viewed, waits_at, ticket_at, turn_at, waits, has_ticket, has_turn, pairs_covering, weight, AtStage, Stands, Kept, Ruled, first_view, Draws, Awaits, entry_by, Enters, Learns, left, right, longer, met, spent}
 use Rattle.hsm_desk.proofs.Totals.{total_set, total_push, total_append, total_member, total_two, total_none, total_le, between_more, between_less, between_one, one_same}
 use Rattle.hsm_desk.proofs.Histories.{prefix_self, prefix_push, get_push, get_append, get_front, get_back}
 use Rattle.hsm_desk.proofs.Kins.{kept_counts, kept_weight, kept_are, new_are, kept_knows, new_knows, counts, own_counts, own_pair, weighs}
@@ -84,7 +84,7 @@ draws id known cons s r len at fits =
               let e : one_if (eqb n t) ≡ one_if (eqb (L + T) t) = ap (λ (k : ℕ). one_if (eqb k t)) found in
               omega arith;
           slot = λ none. kept.slot (let a = total_set has_turn s.views id v w at in omega arith);
-          covered = λ x. let a = total_set (covers x) s.views id v w at in let b = kept.covered x in omega arith;
+          covered = λ x. let a = total_set (pairs_covering x) s.views id v w at in let b = kept.covered x in omega arith;
           weighed = let a = total_set weight s.views id v w at in let b = kept.weighed in omega arith;
           each = each_set log s.views id w (λ j u _ e. kept.each j u e) record { fits = was.fits; pairs = was.pairs; stage = cons };
         },
@@ -111,11 +111,11 @@ nobody words homes views log kept id known t at served = total_none has_turn vie
     idle j known' (Met a b) apart there st = refl
 
 -- the whole history is more than what was seen by entries that the kin does not cover
-grows : (log : List Entry) (known : Known) → Fits log known → Grows known.kin known.seen log
+grows : (log : List Entry) (known : Known) → IsPartOf log known → Grows known.kin known.seen log
 grows log known fits = record { begins = fits.begins; apart = λ k e far at j p is cover. absurd (let near = (fits.knows k e at j p is cover).1 in omega arith) }
 
 -- who has seen the whole history
-whole : (log : List Entry) (known : Known) → Fits log known → Fits log (knowing log known.kin)
+whole : (log : List Entry) (known : Known) → IsPartOf log known → IsPartOf log (knowing log known.kin)
 whole log known fits = record { begins = prefix_self log; knows = λ k e at j p is cover. ((fits.knows k e at j p is cover).0, slice_get_within log k e at) }
 
 pub awaits : (id : ℕ) (known : Known) (t : ℕ) → Allows Ruled 1 id (viewed known (Waiting t), []) 0 (λ n. n) (Awaits (viewed known (Waiting t), []))
@@ -152,7 +152,7 @@ awaits id known t s r len at fits =
               let c : between L (L + T') z ≡ between L (L + T) z = ap (λ (k : ℕ). between L (L + k) z) stays in
               omega arith;
           slot = λ none. absurd (let a = total_set has_turn s.views id v w at in omega arith);
-          covered = λ z. let a = total_set (covers z) s.views id v w at in let b = kept.covered z in omega arith;
+          covered = λ z. let a = total_set (pairs_covering z) s.views id v w at in let b = kept.covered z in omega arith;
           weighed = let a = total_set weight s.views id v w at in let b = kept.weighed in omega arith;
           each = each_set log s.views id w (λ j u _ e'. kept.each j u e') record { fits = whole log known was.fits; pairs = was.pairs; stage = (sym e ∙ found, refl, was.stage) };
         },
@@ -182,7 +182,7 @@ knows_push log seen kin e knows apart k x at j p is cover = ⊎_elim
     (λ (r : (k ≡ length log) × (e ≡ x)). absurd (apart j p is (subst (λ (z : Entry). Covers p z.pass) (sym r.1) cover)))
     (get_push log e x k at)
 
-fits_push : (log : List Entry) (known : Known) (e : Entry) → Fits log known → ((j : ℕ) (p : ℕ × ℕ) → slice_get known.kin j ≡ Some p → ¬ Covers p e.pass) → Fits (log ++ e ∷ []) known
+fits_push : (log : List Entry) (known : Known) (e : Entry) → IsPartOf log known → ((j : ℕ) (p : ℕ × ℕ) → slice_get known.kin j ≡ Some p → ¬ Covers p e.pass) → IsPartOf (log ++ e ∷ []) known
 fits_push log known e fits apart = record { begins = prefix_push known.seen log e fits.begins; knows = knows_push log known.seen known.kin e fits.knows apart }
 
 -- another seat, as an entry is made whose number it does not cover, while it does not have the turn
@@ -214,7 +214,7 @@ set_there [] i v w at = absurd (some-ne-none v (sym at))
 set_there (x ∷ xs) zero v w at = refl
 set_there (x ∷ xs) (suc i) v w at = set_there xs i v w at
 
-owns : (log : List Entry) (known : Known) → Fits log known → Owns log known.kin
+owns : (log : List Entry) (known : Known) → IsPartOf log known → Owns log known.kin
 owns log known fits k e there j p at cover = (fits.knows k e there j p at cover).0
 
 -- the entry is made, where the history is what the seat has seen
@@ -243,10 +243,10 @@ module _ (id t : ℕ) (seen : List Entry) (kin : List (ℕ × ℕ)) (x : Held) (
       let cons = was.stage.2 in
       let last : (n + 1) % 18446744073709551616 ≡ length (seen ++ made ∷ []) = mod-eq_of_lt (omega arith) ∙ (let h : n + 1 ≡ length (seen ++ made ∷ []) = omega arith in h) in
       let same : L + T ≡ length (seen ++ made ∷ []) + T' = omega arith in
-      let once : (z : ℕ) → total (covers z) views ≡ 1 = kept.covered in
+      let once : (z : ℕ) → total (pairs_covering z) views ≡ 1 = kept.covered in
       let own = own_counts kin cons was.pairs in
       let others : (j : ℕ) (u : View) → j ≢ id → get_elem? views j ≡ some u → Stands (seen ++ made ∷ []) u = λ j u apart there.
-      let two = total_two (covers (first_pair kin).0) views id j before u apart at there in
+      let two = total_two (pairs_covering (first_pair kin).0) views id j before u apart at there in
       let all = once (first_pair kin).0 in
       let tickets = total_two (has_ticket t) views id j before u apart at there in
       let mine : has_ticket t before ≡ 1 = one_same t in
@@ -270,7 +270,7 @@ module _ (id t : ℕ) (seen : List Entry) (kin : List (ℕ × ℕ)) (x : Held) (
             let f : one_if (eqb t z) ≡ one_if (eqb L z) = ap (λ (k : ℕ). one_if (eqb k z)) place in
             omega arith;
         slot = λ none. (x, one_home homes (Some x) len, stands);
-        covered = λ z. let a = total_set (covers z) views id before after at in let b = kept.covered z in omega arith;
+        covered = λ z. let a = total_set (pairs_covering z) views id before after at in let b = kept.covered z in omega arith;
         weighed = let a = total_set weight views id before after at in let b = kept.weighed in omega arith;
         each = each_set (seen ++ made ∷ []) views id after others record {
           fits = record {
@@ -280,7 +280,7 @@ module _ (id t : ℕ) (seen : List Entry) (kin : List (ℕ × ℕ)) (x : Held) (
                   (λ (l : slice_get seen k ≡ Some e). (was.fits.knows k e l j p is cover).0)
                   (λ (r : (k ≡ L) × (made ≡ e)).
                   let cover' : Covers p (first_pair kin).0 = subst (λ (z : Entry). Covers p z.pass) (sym r.1) cover in
-                  let few : total (covering (first_pair kin).0) kin ≤ 1 = let m = total_member (covers (first_pair kin).0) views id before at in let o = once (first_pair kin).0 in omega arith in
+                  let few : total (covering (first_pair kin).0) kin ≤ 1 = let m = total_member (pairs_covering (first_pair kin).0) views id before at in let o = once (first_pair kin).0 in omega arith in
                   sym (ap (λ (z : Entry). z.pass) r.1) ∙ ap (λ (z : ℕ × ℕ). z.0) (sym (own_pair kin cons was.pairs few j p is cover')))
                   (get_push seen made e k there),
               slice_get_within (seen ++ made ∷ []) k e there,
@@ -331,7 +331,7 @@ splits id known cons room s r at =
         legal = kept.legal;
         tickets = λ z. both (has_ticket z) refl ∙ (kept.tickets z ∙ ap (λ (k : ℕ). between (length log) (length log + k) z) (sym same));
         slot = λ idle. kept.slot (sym (both has_turn refl) ∙ idle);
-        covered = λ z. both (covers z) (kept_counts z known.kin cons was.pairs) ∙ kept.covered z;
+        covered = λ z. both (pairs_covering z) (kept_counts z known.kin cons was.pairs) ∙ kept.covered z;
         weighed = both weight (kept_weight known.kin was.pairs room) ∙ kept.weighed;
         each = λ j u e. ⊎_elim
             (λ (there : get_elem? vs j ≡ some u). each_set log s.views id l (λ i x _ e'. kept.each i x e')
@@ -350,7 +350,7 @@ longer_is xs ys = go (leb (length xs) (length ys)) refl
     go false e = inr (refl, (let h = leb-false (length xs) (length ys) e in omega arith))
 
 -- the longer of two histories that were seen
-longer_fits : (log : List Entry) (a b : Known) → Fits log a → Fits log b → IsPrefix (longer a.seen b.seen) log × (length a.seen ≤ length (longer a.seen b.seen)) × (length b.seen ≤ length (longer a.seen b.seen))
+longer_fits : (log : List Entry) (a b : Known) → IsPartOf log a → IsPartOf log b → IsPrefix (longer a.seen b.seen) log × (length a.seen ≤ length (longer a.seen b.seen)) × (length b.seen ≤ length (longer a.seen b.seen))
 longer_fits log a b x y = ⊎_elim
     (λ (h : (longer a.seen b.seen ≡ b.seen) × (length a.seen ≤ length b.seen)). (subst (λ (z : List Entry). IsPrefix z log) (sym h.0) y.begins, (let e = ap (length {A = Entry}) h.0 in let g = h.1 in omega arith), (let e = ap (length {A = Entry}) h.0 in omega arith)))
     (λ (h : (longer a.seen b.seen ≡ a.seen) × (length b.seen ≤ length a.seen)). (subst (λ (z : List Entry). IsPrefix z log) (sym h.0) x.begins, (let e = ap (length {A = Entry}) h.0 in omega arith), (let e = ap (length {A = Entry}) h.0 in let g = h.1 in omega arith)))
@@ -377,7 +377,7 @@ joins id other a b s r at apart at' =
         legal = kept.legal;
         tickets = λ z. both (has_ticket z) refl ∙ (kept.tickets z ∙ ap (λ (k : ℕ). between (length log) (length log + k) z) (sym same));
         slot = λ idle. kept.slot (sym (both has_turn refl) ∙ idle);
-        covered = λ z. both (covers z) (let h = total_append (covering z) a.kin b.kin in omega arith) ∙ kept.covered z;
+        covered = λ z. both (pairs_covering z) (let h = total_append (covering z) a.kin b.kin in omega arith) ∙ kept.covered z;
         weighed = both weight (let h = total_append part a.kin b.kin in omega arith) ∙ kept.weighed;
         each = each_set log vs other spent
             (λ j x _ e. each_set log s.views id w (λ i y _ e'. kept.each i y e')
@@ -422,7 +422,7 @@ learns id known a b s r len at fits =
           legal = kept.legal;
           tickets = λ z. stays (has_ticket z) refl ∙ (kept.tickets z ∙ ap (λ (k : ℕ). between L (L + k) z) (sym still));
           slot = λ idle. kept.slot (sym (stays has_turn refl) ∙ idle);
-          covered = λ z. stays (covers z) refl ∙ kept.covered z;
+          covered = λ z. stays (pairs_covering z) refl ∙ kept.covered z;
           weighed = stays weight refl ∙ kept.weighed;
           each = each_set log s.views id w (λ j u _ e. kept.each j u e) record { fits = whole log known was.fits; pairs = was.pairs; stage = tt };
         },

@@ -7,7 +7,7 @@ use Rattle.hsm_auth.specs.declared.entry.Granted.{Granted}
 use Rattle.hsm_auth.specs.declared.entry.Entry.{Entry}
 use Rattle.hsm_auth.specs.History.{entry, outcome}
 use Rattle.hsm_auth.specs.Own.{own}
-use Rattle.hsm_desk.specs.Kin.{Covers, Grows, IsSound, first_pair, kept_kin, new_kin}
+use Rattle.hsm_desk.specs.Kin.{IsCovered, EachCovering, Grows, IsSound, first_pair, kept_kin, new_kin}
 
 -- a pass: the desk that it belongs to, the history that it has seen, and its kin, which begins with its own number and step
 pub record PassView : Type 0 where
@@ -29,7 +29,7 @@ Sound p = IsSound p.seen p.kin
 
 -- the pairs of its kin cover every number
 abbrev pub IsWhole : PassView → Type 0
-IsWhole p = (x : ℕ) → (j : ℕ) × (q : ℕ × ℕ) × (slice_get p.kin j ≡ Some q) × Covers q x
+IsWhole p = (x : ℕ) → IsCovered p.kin x
 
 -- the number of each entry that was seen is that of a pair of the kin
 abbrev pub OnlyKin : PassView → Type 0
@@ -56,7 +56,7 @@ pub record Makes (p q : PassView) (entries : List (ℕ × Entry)) : Type 0 where
   pub kin : q.kin ≡ p.kin
   pub begins : IsPrefix p.seen q.seen
   pub own : own (number p) q.seen ≡ own (number p) p.seen ++ entries
-  pub apart : (k : ℕ) (e : Entry) → length p.seen ≤ k → slice_get q.seen k ≡ Some e → (j : ℕ) (pair : ℕ × ℕ) → slice_get p.kin j ≡ Some pair → Covers pair e.pass → e.pass ≡ number p
+  pub apart : (k : ℕ) (e : Entry) → length p.seen ≤ k → slice_get q.seen k ≡ Some e → EachCovering p.kin e.pass (λ _. e.pass ≡ number p)
   pub sound : Sound q
 
 -- the first pass of a desk: it has seen nothing, its number is 0 and its step 1

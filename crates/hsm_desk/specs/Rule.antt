@@ -13,7 +13,7 @@ use Rattle.hsm_desk.specs.declared.view.Held.{Held}
 use Rattle.hsm_desk.specs.declared.view.Stage.{Stage}
 use Rattle.hsm_desk.specs.declared.view.Stage.TheVariants.{Idle, Waiting, Turn, Met}
 use Rattle.hsm_desk.specs.Totals.{total, one_if, between}
-use Rattle.hsm_desk.specs.Kin.{covering, part, IsKin, IsCons, first_pair, Owns, Grows, Fits, kept_kin, new_kin}
+use Rattle.hsm_desk.specs.Kin.{covering, part, IsKin, IsCons, first_pair, Owns, Grows, IsPartOf, kept_kin, new_kin}
 
 abbrev pub knowing : List Entry → List (ℕ × ℕ) → Known
 knowing seen kin = record { seen = seen; kin = kin }
@@ -49,8 +49,9 @@ has_ticket x v = ticket_at x v.stage
 abbrev pub has_turn : View → ℕ
 has_turn v = turn_at v.stage
 
-abbrev pub covers : ℕ → View → ℕ
-covers x v = total (covering x) v.known.kin
+-- how many pairs of the seat's kin cover the number
+abbrev pub pairs_covering : ℕ → View → ℕ
+pairs_covering x v = total (covering x) v.known.kin
 
 abbrev pub weight : View → ℕ
 weight v = total part v.known.kin
@@ -59,10 +60,10 @@ abbrev pub AtStage : List Entry → Known → Stage → Type 0
 AtStage log known Idle = Unit {0}
 AtStage log known (Waiting t) = IsCons known.kin
 AtStage log known (Turn t) = (t ≡ length log) × (known.seen ≡ log) × IsCons known.kin
-AtStage log known (Met a b) = Fits log a × Fits log b × (known.kin ≡ a.kin ++ b.kin)
+AtStage log known (Met a b) = IsPartOf log a × IsPartOf log b × (known.kin ≡ a.kin ++ b.kin)
 
 pub record Stands (log : List Entry) (v : View) : Type 0 where
-  pub fits : Fits log v.known
+  pub fits : IsPartOf log v.known
   pub pairs : IsKin v.known.kin
   pub stage : AtStage log v.known v.stage
 
@@ -72,7 +73,7 @@ pub record Kept (words : List ℕ) (homes : List (maybe.Option (Option Held))) (
   pub legal : IsLegal log
   pub tickets : (t : ℕ) → total (has_ticket t) views ≡ between (length log) (length log + total waits views) t
   pub slot : total has_turn views ≡ 0 → (x : Held) × (homes ≡ some (Some x) ∷ []) × StandsFor x.ledger.value log
-  pub covered : (x : ℕ) → total (covers x) views ≡ 1
+  pub covered : (x : ℕ) → total (pairs_covering x) views ≡ 1
   pub weighed : total weight views ≡ 2 ^ 62
   pub each : (id : ℕ) (v : View) → get_elem? views id ≡ some v → Stands log v
 

@@ -10,3 +10,4 @@ pub mod ClearFields
 pub mod Opening
 pub mod Joining
 pub mod Served
+pub mod Apart

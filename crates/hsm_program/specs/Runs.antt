@@ -98,13 +98,13 @@ AuthorisedByOfficers m lines history =
     (i : ℕ) (e : Entry) (activity : Activity) (minutes : ℕ)
     → slice_get history i ≡ Some e → e.ask ≡ Authorise activity minutes → IsByOfficers m lines history i activity minutes
 
--- An answer of the history that shows a clear key or PIN stands at an entry at which a live grant covers what its row needs, and a console
--- text of the script, an `A` with both officers' words, gave that grant before.
+-- An answer of the history that shows a clear key or PIN stands at an entry that needs the activity of the row's mark and is answered `Use`. A live
+-- grant covers that activity, and a console text of the script, an `A` with both officers' words, gave that grant before.
 abbrev pub ShowsGranted : Module → List Said → List Entry → Type 0
 ShowsGranted m lines history =
     (i : ℕ) (e : Entry) (side : Side) (moment : ℕ) (message : List ℕ)
     → slice_get history i ≡ Some e → IsEntryOf m history i side moment message → (s : ShowsClear m side message e.granted)
-    → IsGranted m lines 0 history i moment s.row s.read
+    → IsGranted m lines 0 history i e s.row s.read
 
 -- A run of these lines from the opening ledger comes to this legal history, prints this text and ends so. Each authorisation in it is by a
 -- console text of the script with both officers' words, and what is shown in the clear is shown under a grant so given.

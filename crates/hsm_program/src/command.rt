@@ -6,6 +6,7 @@ ghost use Rattle.hsm_rows.specs.Table.{IsHostRow, host_rows, row_with, shape_of,
 ghost use Rattle.hsm_program.specs.Words.{ReadsWords, ReadsRest, asked_check, asked_code, asked_script, asked_serve, is_file_word, names};
 
 use hsm_rows::{Row, row_of};
+use thiserror::Error;
 
 /// What the words ask for. A place indexes the words.
 #[derive(Clone, Copy)]
@@ -21,9 +22,10 @@ pub enum Command {
 }
 
 /// The words are no command.
-#[derive(Clone, Copy, Debug, PartialEq, Eq)]
+#[derive(Clone, Copy, Debug, Error, PartialEq, Eq)]
 pub enum WordsFault {
     /// The place of the first word that no command allows, counted from 0, or the number of words where one is missing.
+    #[error("usage at word {0}")]
     Usage(usize),
 }
 

@@ -5,12 +5,12 @@ use Rattle.hsm_auth.specs.declared.entry.Ask.{Ask}
 use Rattle.hsm_auth.specs.declared.entry.Entry.{Entry}
 use Rattle.hsm_auth.specs.declared.entry.Granted.{Granted}
 use Rattle.hsm_auth.specs.declared.ledger.Ledger.{Ledger}
-use Rattle.hsm_auth.specs.History.{entry, outcome, IsLegal, StandsFor}
+use Rattle.hsm_auth.specs.History.{entry, outcome, IsKnown, IsLegal, StandsFor}
 use Rattle.hsm_rows.specs.declared.settings.Module.{Module}
 use Rattle.hsm_answers.specs.Messages.{Side, host, message_ask, message_answer}
 use Rattle.hsm_io.specs.Texts.{Appends, AppendsFront}
 use Rattle.hsm_io.proofs.TextLemmas.{appends_then_front, appends_twice, front_of_more}
-use Rattle.hsm_session.specs.Booking.{entry_of, entries_of, answer_lines, reply_line, reply_of, IsAnswered, IsKnown, Books, BooksAll, BooksFront, BooksSome}
+use Rattle.hsm_session.specs.Booking.{entry_of, entries_of, answer_lines, reply_line, reply_of, IsAnswered, Books, BooksAll, BooksFront, BooksSome}
 
 -- one more entry and those after it
 after_one : (h : List Entry) (e : Entry) (more : List Entry) → (h ++ e ∷ []) ++ more ≡ h ++ e ∷ more

@@ -2,17 +2,16 @@
 use Rattle.std.proofs.Common.{◌≡◌, ℕ, zero, suc, ◌+◌, ◌-◌, ◌<◌, ◌≤◌, List, [], ◌∷◌, ◌++◌, length, take, Some, refl, sym, ap, ◌∙◌, subst, inl, inr, append_assoc, append-nil, length-append, arith}
 use Rattle.std.specs.Prelude.{◌⊎◌, Contains, slice_get, Option}
 use Rattle.std.proofs.lemmas.Option.{slice_get_within}
-use Rattle.std.proofs.lemmas.List.{take-append-le, length-take}
+use Rattle.std.proofs.lemmas.List.{take-append-le}
 use Rattle.std.proofs.Math.Seq.{take-append-add}
 use Rattle.std.proofs.lemmas.Bool.{cases_lt}
-use Rattle.circular_buffer.proofs.Places.{slice_get-append_left, slice_get-append_right, slice_get-take}
+use Rattle.circular_buffer.proofs.Places.{slice_get-append_left, slice_get-append_right}
 use Rattle.hsm_auth.specs.declared.entry.Entry.{Entry}
-use Rattle.hsm_auth.specs.declared.entry.Granted.{Granted}
 use Rattle.hsm_rows.specs.declared.settings.Module.{Module}
 use Rattle.hsm_auth.specs.declared.activity.Activity.{Activity}
 use Rattle.hsm_auth.specs.declared.entry.Ask.TheVariants.{Authorise}
 use Rattle.hsm_auth.specs.History.{outcome}
-use Rattle.hsm_answers.specs.Clear.{Authorises, IsCovered, ShowsClear}
+use Rattle.hsm_answers.specs.Clear.{Authorises, IsGrantedAt, ShowsClear}
 use Rattle.hsm_answers.specs.Messages.{Side, host, console, message_ask}
 use Rattle.hsm_session.specs.Booking.{entry_of, entries_of}
 use Rattle.hsm_session.specs.Clear.{Brings, HasMessage, IsByOfficers, IsEntryOf, IsGranted}
@@ -141,10 +140,11 @@ abbrev pub WordsAuthorise : Type 0
 WordsAuthorise = (m : Module) (side : Side) (message : List ℕ) (activity : Activity) (minutes : ℕ)
     → message_ask m side message ≡ Authorise activity minutes → Authorises m side message activity minutes
 
--- an answer that shows a clear key or PIN is covered
-abbrev pub ClearCovered : Type 0
-ClearCovered = (m : Module) (side : Side) (message : List ℕ) (h : List Entry) (moment : ℕ)
-    → (s : ShowsClear m side message (outcome h moment (message_ask m side message))) → IsCovered s.row s.read h moment
+-- an answer that shows a clear key or PIN, at an entry that is answered what the entries before it say, was granted
+abbrev pub ClearGranted : Type 0
+ClearGranted = (m : Module) (side : Side) (message : List ℕ) (h : List Entry) (i : ℕ) (e : Entry)
+    → slice_get h i ≡ Some e → e.ask ≡ message_ask m side message → e.granted ≡ outcome (take i h) e.moment e.ask
+    → (s : ShowsClear m side message e.granted) → IsGrantedAt s.row s.read h i e
 
 pub same_entry : (e d : Entry) (o : Option Entry) → o ≡ Some e → o ≡ Some d → e ≡ d
 same_entry e d o x y = cc
@@ -157,17 +157,14 @@ by_officers words m h lines last text p i e activity minutes least there asks =
     let same = same_entry e (entry_of m b.side b.moment (take i last) b.message) (slice_get last i) there b.entered in
     record { of_message = b; words = words m b.side b.message activity minutes (sym (ap (λ (x : Entry). x.ask) same) ∙ asks) }
 
-pub granted_before : WordsAuthorise → ClearCovered → (m : Module) (h : List Entry) (lines : List Said) (last : List Entry) (text : List ℕ) → Prints m h [] lines last text
+pub granted_before : WordsAuthorise → ClearGranted → (m : Module) (h : List Entry) (lines : List Said) (last : List Entry) (text : List ℕ) → Prints m h [] lines last text
     → (i : ℕ) (e : Entry) (side : Side) (moment : ℕ) (message : List ℕ) → slice_get last i ≡ Some e → IsEntryOf m last i side moment message
-    → (s : ShowsClear m side message e.granted) → IsGranted m lines (length h) last i moment s.row s.read
-granted_before words covered m h lines last text p i e side moment message there entered =
+    → (s : ShowsClear m side message e.granted) → IsGranted m lines (length h) last i e s.row s.read
+granted_before words granted m h lines last text p i e side moment message there entered s =
     let same = same_entry e (entry_of m side moment (take i last) message) (slice_get last i) there entered in
-    let Shown : Granted → Type 0 = λ g. (s : ShowsClear m side message g) → IsGranted m lines (length h) last i moment s.row s.read in
-    let by_grant : Shown (outcome (take i last) moment (message_ask m side message)) = λ s.
-    let c = covered m side message (take i last) moment s in
-    let given = c.lives.0.1 in
-    let j = c.lives.0.0 in
-    let before : j < length (take i last) = slice_get_within (take i last) j given.entry given.there in
-    let whole : slice_get last j ≡ Some given.entry = sym (slice_get-take i last j (omega (arith, before, length-take i last))) ∙ given.there in
-    record { covered = c; given = λ least. by_officers words m h lines last text p j given.entry c.grant.activity given.minutes least whole given.ask } in
-    subst Shown (ap (λ (x : Entry). x.granted) (sym same)) by_grant
+    let answers : e.granted ≡ outcome (take i last) e.moment e.ask = ap (λ (x : Entry). x.granted) same ∙ sym (ap (λ (x : Entry). outcome (take i last) x.moment x.ask) same) in
+    let g = granted m side message last i e there (ap (λ (x : Entry). x.ask) same) answers s in
+    record {
+      at_entry = g;
+      by_officers = λ least. by_officers words m h lines last text p g.giver g.given.entry g.grant.activity g.given.minutes least g.given.there g.given.asks;
+    }

@@ -27,7 +27,7 @@ use Rattle.hsm_auth.specs.declared.activity.Activity.{Activity}
 use Rattle.hsm_auth.specs.declared.entry.Ask.{Ask}
 use Rattle.hsm_auth.specs.declared.entry.Ask.TheVariants as ask
 use Rattle.hsm_auth.specs.declared.entry.Entry.{Entry}
-use Rattle.hsm_auth.specs.declared.entry.TheConstants.{MAX_MINUTES, MAX_MOMENT}
+use Rattle.hsm_auth.specs.declared.entry.TheConstants.{MAX_MINUTES}
 use Rattle.hsm_auth.specs.Activities.{activity_of}
 use Rattle.hsm_auth.specs.History.{CanAsk, IsLegal, IsLegalEntry}
 use Rattle.hsm_rows.specs.declared.settings.Module.{Module}
@@ -261,7 +261,7 @@ can_ask words are stand m side message = go (message_ask m side message) refl
     go ask.Recent is = tt
 
 -- the moments of lines that read
-moment_most : (hosts before : ℕ) (earlier later : List Said) → before ≤ MAX_MOMENT → AllByRecursion (IsLine hosts) (earlier ++ later) → moment_after before earlier ≤ MAX_MOMENT
+moment_most : (hosts before : ℕ) (earlier later : List Said) → before ≤ 2 ^ 40 → AllByRecursion (IsLine hosts) (earlier ++ later) → moment_after before earlier ≤ 2 ^ 40
 moment_most hosts before [] later most all = most
 moment_most hosts before (Nothing ∷ earlier) later most all = moment_most hosts before earlier later most all.1
 moment_most hosts before (Moment moment ∷ earlier) later most all = moment_most hosts moment earlier later all.0 all.1
@@ -281,7 +281,7 @@ stays_legal words are stand m h script lines last text over reads told legal = �
     let b = each_message m h [] lines last told.answers told.printed i past (slice_get_within last i e there) in
     let same = same_entry e (entry_of m b.side b.moment (take i last) b.message) (slice_get last i) there b.entered in
     let within = subst (AllByRecursion (IsLine m.hosts)) b.said.place (script_within m.hosts script lines reads).0 in
-    let most : b.moment ≤ MAX_MOMENT =
-    subst (λ (n : ℕ). n ≤ MAX_MOMENT) (sym b.said.moment_there) (moment_most m.hosts 0 b.said.earlier (b.said.line ∷ b.said.later) (omega arith) within) in
+    let most : b.moment ≤ 2 ^ 40 =
+    subst (λ (n : ℕ). n ≤ 2 ^ 40) (sym b.said.moment_there) (moment_most m.hosts 0 b.said.earlier (b.said.line ∷ b.said.later) (omega arith) within) in
     subst (IsLegalEntry (take i last)) (sym same) (record { answers = refl; moment = most; ask = can_ask words are stand m b.side b.message }))
     (cases_lt i (length h))

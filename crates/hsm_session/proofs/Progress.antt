@@ -16,7 +16,7 @@ use Rattle.hsm_session.specs.declared.run.Run.{Run}
 use Rattle.hsm_session.specs.declared.script.ScriptEnd.{ScriptEnd}
 use Rattle.hsm_session.specs.Plans.{least_length}
 use Rattle.hsm_session.specs.Scripts.{Said}
-use Rattle.hsm_session.specs.Booking.{IsKnown}
+use Rattle.hsm_auth.specs.History.{IsKnown}
 use Rattle.hsm_session.specs.Runs.{AreEnds, Prints, Runs, Stops, end_lines, got, is_cut, is_short, last_line}
 use Rattle.hsm_session.specs.Lanes.{BringBytes, Ends, IsAt, StopsLine, TakesLine, lane_end, run_end}
 use Rattle.hsm_session.proofs.Existence.{ends_exist, first_bring, prints_exist}

@@ -6,7 +6,6 @@ use Rattle.std.specs.Option.{option_map}
 use Rattle.hex.specs.Hex.{decode_of}
 use Rattle.hex.specs.declared.error.FromHexError.{FromHexError}
 use Rattle.hex.proofs.HexLemmas.{decode_of-ok}
-use Rattle.hsm_auth.specs.declared.entry.TheConstants.{MAX_MOMENT}
 use Rattle.hsm_session.specs.Scripts.{Said, Nothing, Moment, Piece, Console, lines, onto_first_line, is_blank, is_printable, moment_of, console_of, piece_of, piece_at, piece_for_lane, lane_number, not_zero, some_bytes, number_within, line_of, lines_from, with_line, script_of}
 use Rattle.hsm_session.specs.Lanes.{AreBytes, BringBytes, IsLine, weight}
 use Rattle.hsm_session.specs.Runs.{got}
@@ -42,13 +41,13 @@ within_more hosts less more said le w = (w.0, omega (arith, le, w.1))
 
 moment_within : (hosts : ℕ) (text : List ℕ) (said : Said) → moment_of text ≡ Some said → Within hosts (length text) said
 unfolding moment_of
-moment_within hosts text said is = go (number_within MAX_MOMENT text) refl is
+moment_within hosts text said is = go (number_within (2 ^ 40) text) refl is
   where
-    go : (number : Option ℕ) → number_within MAX_MOMENT text ≡ number → option_map Moment number ≡ Some said → Within hosts (length text) said
+    go : (number : Option ℕ) → number_within (2 ^ 40) text ≡ number → option_map Moment number ≡ Some said → Within hosts (length text) said
     go None reads is = absurd (cc)
     go (Some moment) reads is =
         let same : Moment moment ≡ said = cc in
-        subst (Within hosts (length text)) same (number_below MAX_MOMENT text moment reads, omega arith)
+        subst (Within hosts (length text)) same (number_below 2 ^ 40 text moment reads, omega arith)
 
 console_within : (hosts : ℕ) (text : List ℕ) (said : Said) → console_of text ≡ Some said → Within hosts (length text) said
 unfolding console_of

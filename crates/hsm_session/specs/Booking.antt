@@ -40,10 +40,6 @@ answer_lines m lane moment h [] = []
 answer_lines m lane moment h (message ∷ messages) =
     reply_line lane (reply_of m host moment h message) ++ answer_lines m lane moment (h ++ entry_of m host moment h message ∷ []) messages
 
--- the ledger stands for some history
-abbrev pub IsKnown : Ledger → Type 0
-IsKnown ledger = (h : List Entry) × StandsFor ledger h
-
 -- After the history h these entries were booked, and this text was written.
 pub record Books (h more : List Entry) (text : List ℕ) (ledger : Ledger) (before after : List ℕ → Type 0) : Type 0 where
   pub stands : StandsFor ledger (h ++ more)

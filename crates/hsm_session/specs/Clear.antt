@@ -6,7 +6,7 @@ use Rattle.hsm_frame.specs.Frames.{Frames, StreamEnd}
 use Rattle.hsm_rows.specs.declared.settings.Module.{Module}
 use Rattle.hsm_rows.specs.Table.{RowShape}
 use Rattle.hsm_rows.specs.Reading.{ReadText}
-use Rattle.hsm_answers.specs.Clear.{Authorises, IsCovered}
+use Rattle.hsm_answers.specs.Clear.{Authorises, IsGrantedAt}
 use Rattle.hsm_answers.specs.Messages.{Side, host, console}
 use Rattle.hsm_session.specs.Booking.{entry_of}
 use Rattle.hsm_session.specs.Plans.{least_length}
@@ -52,7 +52,8 @@ pub record IsByOfficers (m : Module) (lines : List Said) (history : List Entry) 
   pub of_message : HasMessage m lines history i
   pub words : Authorises m of_message.side of_message.message activity minutes
 
--- Of an answer that shows a clear key or PIN, at place i: a grant that was live then covers what its row needs. Where an entry of the run gave it, that is an officers' `A` of the script; the run's entries follow `before` others.
-pub record IsGranted (m : Module) (lines : List Said) (before : ℕ) (history : List Entry) (i moment : ℕ) (row : RowShape) (read : ReadText) : Type 0 where
-  pub covered : IsCovered row read (take i history) moment
-  pub given : before ≤ covered.lives.0.0 → IsByOfficers m lines history covered.lives.0.0 covered.grant.activity covered.lives.0.1.minutes
+-- Of an answer that shows a clear key or PIN, at its entry e at place i: the entry needs the activity of the row's mark, is answered `Use`, and a live grant covers that activity.
+-- Where an entry of the run gave the grant, that is an officers' `A` of the script; the run's entries follow `before` others.
+pub record IsGranted (m : Module) (lines : List Said) (before : ℕ) (history : List Entry) (i : ℕ) (e : Entry) (row : RowShape) (read : ReadText) : Type 0 where
+  pub at_entry : IsGrantedAt row read history i e
+  pub by_officers : before ≤ at_entry.giver → IsByOfficers m lines history at_entry.giver at_entry.grant.activity at_entry.given.minutes

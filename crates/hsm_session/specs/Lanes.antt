@@ -4,7 +4,6 @@ use Rattle.std.specs.List.{AllByRecursion}
 use Rattle.hsm_frame.specs.Frames.{Frames, frame, IsMessage, IsShort, IsTail, StreamEnd, Whole, Part, Short}
 use Rattle.hsm_frame.specs.Calls.{Held, IsNotYet}
 use Rattle.hsm_auth.specs.declared.entry.Entry.{Entry}
-use Rattle.hsm_auth.specs.declared.entry.TheConstants.{MAX_MOMENT}
 use Rattle.hsm_auth.specs.declared.ledger.Ledger.{Ledger}
 use Rattle.hsm_auth.specs.History.{StandsFor}
 use Rattle.hsm_io.specs.Texts.{Appends}
@@ -111,7 +110,7 @@ weight (said.Console text) = 1
 -- a line that a module with so many host lanes reads: what its numbers and its text are within
 abbrev pub IsLine : ℕ → Said → Type 0
 IsLine hosts Nothing = Unit {0}
-IsLine hosts (Moment moment) = moment ≤ MAX_MOMENT
+IsLine hosts (Moment moment) = moment ≤ 2 ^ 40
 IsLine hosts (Piece lane bytes) = (1 ≤ lane) × (lane ≤ hosts) × AreBytes bytes
 IsLine hosts (said.Console text) = (1 ≤ length text) × (length text ≤ 1000)
 

@@ -5,7 +5,6 @@ use Rattle.std.specs.Char.{is_ascii_digit}
 use Rattle.std.specs.Option.{option_map}
 use Rattle.hex.specs.Hex.{decode_of}
 use Rattle.hex.specs.declared.error.FromHexError.{FromHexError}
-use Rattle.hsm_auth.specs.declared.entry.TheConstants.{MAX_MOMENT}
 use Rattle.hsm_rows.specs.Forms.{decimal_from}
 
 -- what a line says: nothing, the moment from here on, a piece of the stream of the host lane of this number, or the text of a console message
@@ -73,7 +72,7 @@ console_of text = if (nat_le 1 (length text) && nat_le (length text) 1000) && li
 
 -- a moment, in seconds
 unfoldable pub moment_of : List ℕ → Option Said
-moment_of text = option_map Moment (number_within MAX_MOMENT text)
+moment_of text = option_map Moment (number_within (2 ^ 40) text)
 
 -- whether a line says nothing: an empty one, and a remark
 abbrev pub is_blank : List ℕ → Bool

@@ -15,8 +15,9 @@ ghost use Rattle.hsm_session.specs.Scripts.{Said};
 use hsm_answers::{clear_where_granted, words_authorise};
 
 /// Each entry of a run is that of a message that a line of the script brings, at the moment of that line. One that authorises is
-/// that of a console text of the script, an `A` with both officers' words. An answer shows a clear key or PIN only at an entry at
-/// which a live grant covers the activity that its row needs, and where the run gave that grant, it was by such a text. It does
+/// that of a console text of the script, an `A` with both officers' words. An answer shows a clear key or PIN only at an entry that
+/// needs the activity of the row's mark and is answered `Use`. A grant that is live just before it covers that activity; an earlier
+/// entry gave that grant, no entry between the two ends it, and where it is an entry of the run, it is that of such a text. It does
 /// nothing.
 pub fn clear_in_runs()
     ensures messages { (m : Module) (h : List Entry) (lines : List Said) (last : List Entry) (text : List ℕ) (over : ScriptEnd)
@@ -27,7 +28,7 @@ pub fn clear_in_runs()
     ensures clear { (m : Module) (h : List Entry) (lines : List Said) (last : List Entry) (text : List ℕ) (over : ScriptEnd)
         → Told m h lines last text over → (i : ℕ) (e : Entry) (side : Side) (moment : ℕ) (message : List ℕ)
         → slice_get last i ≡ Some e → IsEntryOf m last i side moment message → (s : ShowsClear m side message e.granted)
-        → IsGranted m lines (length h) last i moment s.row s.read }
+        → IsGranted m lines (length h) last i e s.row s.read }
 {
     clear_where_granted();
     words_authorise();

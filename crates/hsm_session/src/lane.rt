@@ -3,13 +3,13 @@
 ghost use Rattle.std.specs.Prelude.{◌≡◌, ◌+◌, ◌<◌, ◌≤◌, ◌∷◌, ◌++◌, ℕ, List, [], length, OnOk, OnErr, IfOk, None, codes};
 ghost use Rattle.arrayvec.specs.ArrayVec.{array_vec_len};
 ghost use Rattle.hsm_auth.specs.declared.entry.Entry.{Entry};
-ghost use Rattle.hsm_auth.specs.declared.entry.TheConstants.{MAX_MOMENT};
 ghost use Rattle.hsm_auth.specs.History.{StandsFor};
 ghost use Rattle.hsm_answers.specs.Messages.{console};
 ghost use Rattle.hsm_io.specs.Outside.{Rose};
 ghost use Rattle.hsm_io.specs.Texts.{Appends, AppendsFront};
 ghost use Rattle.hsm_session.specs.Plans.{least_for, least_length, side_of};
-ghost use Rattle.hsm_session.specs.Booking.{Books, BooksAll, BooksFront, BooksSome, IsAnswered, IsKnown, console_line, entry_of, lane_words, reply_line, reply_of};
+ghost use Rattle.hsm_auth.specs.History.{IsKnown};
+ghost use Rattle.hsm_session.specs.Booking.{Books, BooksAll, BooksFront, BooksSome, IsAnswered, console_line, entry_of, lane_words, reply_line, reply_of};
 ghost use Rattle.hsm_session.specs.Runs.{closed_line, end_line, is_cut, is_short, last_line, short_line};
 ghost use Rattle.hsm_session.specs.Lanes.{Drains, FeedsPiece, StopsDraining, StopsPiece, lane_end};
 
@@ -53,7 +53,7 @@ impl Buffers {
         message: &[u8],
     )
         requires known { IsKnown ledger.old }
-        requires moment { moment ≤ MAX_MOMENT }
+        requires moment { moment ≤ 2 ^ 40 }
         requires least { least_for «module».now kind ≤ length message.now }
         requires most { length message.now ≤ 65535 }
         ensures { (h : List Entry) → StandsFor ledger.old h → IsAnswered «module».now (side_of kind) moment message.now ledger.old ledger.new self.new.reply h }
@@ -88,7 +88,7 @@ impl Buffers {
         out: &mut S,
     ) -> Result<(), OutFailed>
         requires known { IsKnown ledger.old }
-        requires moment { moment ≤ MAX_MOMENT }
+        requires moment { moment ≤ 2 ^ 40 }
         requires least { least_length «module».now ≤ length message.now }
         requires most { length message.now ≤ 65535 }
         ensures booked { OnOk result (BooksAll «module».now number moment (message.now ∷ []) ledger.old ledger.new (S.stands_for out.old) (S.stands_for out.new)) }
@@ -114,7 +114,7 @@ impl Buffers {
         out: &mut S,
     ) -> Result<(), OutFailed>
         requires known { IsKnown ledger.old }
-        requires moment { moment ≤ MAX_MOMENT }
+        requires moment { moment ≤ 2 ^ 40 }
         requires least { 1 ≤ length text.now }
         requires most { length text.now ≤ 65535 }
         ensures booked { OnOk result ((h : List Entry) → StandsFor ledger.old h →
@@ -217,7 +217,7 @@ fn answer_held<S: Sink>(
     out: &mut S,
 ) -> Result<Drained, OutFailed>
     requires known { IsKnown ledger.old }
-    requires moment { moment ≤ MAX_MOMENT }
+    requires moment { moment ≤ 2 ^ 40 }
     requires least { frames.old.least ≡ least_length «module».now }
     requires room { length frames.old.bytes ≤ 65537 }
     ensures drains { IfOk result (Drains «module».now number moment frames.old frames.new ledger.old ledger.new (S.stands_for out.old) (S.stands_for out.new)) }
@@ -271,7 +271,7 @@ impl Lane {
         out: &mut S,
     ) -> Result<u64, OutFailed>
         requires known { IsKnown ledger.old }
-        requires moment { moment ≤ MAX_MOMENT }
+        requires moment { moment ≤ 2 ^ 40 }
         requires least { self.old.frames.least ≡ least_length «module».now }
         requires held { length self.old.frames.bytes < 65537 }
         ensures feeds { IfOk result (λ answered. FeedsPiece «module».now moment self.old self.new piece.now answered ledger.old ledger.new (S.stands_for out.old) (S.stands_for out.new)) }

@@ -3,11 +3,10 @@
 ghost use Rattle.std.specs.Prelude.{◌≡◌, ◌+◌, ◌<◌, ◌≤◌, ◌^◌, ℕ, List, [], length, slice_get, vec_len, Some, OnOk, OnErr, IfOk};
 ghost use Rattle.hsm_io.specs.Outside.{Rose};
 ghost use Rattle.hsm_io.specs.Texts.{AppendsFront};
-ghost use Rattle.hsm_session.specs.Booking.{IsKnown};
+ghost use Rattle.hsm_auth.specs.History.{IsKnown};
 ghost use Rattle.hsm_session.specs.Reading.{said_of};
 ghost use Rattle.hsm_session.specs.Scripts.{Said, Piece};
 ghost use Rattle.hsm_session.specs.declared.lane.Lane.{Lane};
-ghost use Rattle.hsm_auth.specs.declared.entry.TheConstants.{MAX_MOMENT};
 ghost use Rattle.hsm_session.specs.Lanes.{Ends, IsAt, IsLine, StopsLine, TakesLine, run_end, all_held, weight};
 
 use crate::lane::{Buffers, Lane};
@@ -62,12 +61,12 @@ impl Run {
     ) -> Result<(), OutFailed>
         requires known { IsKnown ledger.old }
         requires at { (earlier : List Said) × IsAt «module».now self.old earlier }
-        requires moment { self.old.moment ≤ MAX_MOMENT }
+        requires moment { self.old.moment ≤ 2 ^ 40 }
         requires line { IsLine «module».now.hosts (said_of line.now) }
         requires room { self.old.entries + all_held self.old.lanes.items + weight (said_of line.now) < 2 ^ 64 }
         ensures takes { OnOk result (TakesLine «module».now self.old self.new (said_of line.now) ledger.old ledger.new (S.stands_for out.old) (S.stands_for out.new)) }
         ensures stops { OnErr result (StopsLine «module».now self.old (said_of line.now) ledger.old ledger.new (S.stands_for out.old) (S.stands_for out.new)) }
-        ensures moment { OnOk result (self.new.moment ≤ MAX_MOMENT) }
+        ensures moment { OnOk result (self.new.moment ≤ 2 ^ 40) }
         ensures failed { OnErr result (Rose (S.faults out.old) (S.faults out.new)) }
         ensures kept { OnOk result (S.faults out.new ≡ S.faults out.old) }
     {
@@ -100,7 +99,7 @@ impl Run {
     ) -> Result<(), OutFailed>
         requires known { IsKnown ledger.old }
         requires at { (earlier : List Said) × IsAt «module».now self.old earlier }
-        requires moment { self.old.moment ≤ MAX_MOMENT }
+        requires moment { self.old.moment ≤ 2 ^ 40 }
         requires lane { (1 ≤ number) × (number ≤ «module».now.hosts) }
         requires room { self.old.entries + all_held self.old.lanes.items + length piece.now < 2 ^ 64 }
         ensures takes { OnOk result (TakesLine «module».now self.old self.new (Piece number piece.now) ledger.old ledger.new (S.stands_for out.old) (S.stands_for out.new)) }

@@ -1,7 +1,6 @@
 //! Runs of scripts.
 
 ghost use Rattle.hsm_io.specs.Outside.{Rose};
-ghost use Rattle.hsm_session.specs.Booking.{IsKnown};
 ghost use Rattle.hsm_session.specs.Runs.{OutRose, RunAnswers};
 ghost use Rattle.hsm_session.specs.Scripts.{script_of};
 
@@ -13,6 +12,7 @@ use hsm_frame::laws::has_one_reading;
 use hsm_io::Sink;
 use hsm_rows::Module;
 use std::alloc::Global;
+use thiserror::Error;
 
 /// How a script ended.
 #[derive(Clone, Copy, Debug, PartialEq, Eq)]
@@ -26,13 +26,16 @@ pub struct ScriptEnd {
 }
 
 /// Why a script did not run to its end.
-#[derive(Clone, Copy, Debug, PartialEq, Eq)]
+#[derive(Clone, Copy, Debug, Error, PartialEq, Eq)]
 pub enum ScriptFault {
     /// The first line that does not read, counted from 1.
+    #[error("line {0}")]
     Line(u64),
     /// Want of memory, before anything was booked or written.
+    #[error("no memory")]
     Memory,
     /// A write of the output failed.
+    #[error("output fault")]
     Out,
 }
 
@@ -44,14 +47,13 @@ pub fn script_run<S: Sink>(
     script: &[u8],
     out: &mut S,
 ) -> Result<ScriptEnd, ScriptFault>
-    // The ledger stands for some history.
-    requires known { IsKnown ledger.old }
     // For each history that the ledger stood for, the text of the run after that history is written, and the ledger stands for that history with the entries of the run.
     ensures answers { RunAnswers «module».now (script_of «module».now.hosts script.now) ledger.old ledger.new (S.stands_for out.old) (S.stands_for out.new) result }
     ensures cause { OutRose (S.faults out.old) (S.faults out.new) result }
 {
     // What follows a failed write has a reading too.
     has_one_reading();
+    ledger.facts();
     let lines = read_script(alloc, module.hosts, script)?;
     let Ok(mut run) = Run::open(alloc, module) else {
         return Err(ScriptFault::Memory);

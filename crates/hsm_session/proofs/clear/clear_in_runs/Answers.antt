@@ -11,4 +11,4 @@ returns-clause-officers c = λ m h lines last text over told i e activity minute
 
 pub returns-clause-clear : goal.returns-clause-clear
 returns-clause-clear c = λ m h lines last text over told i e side moment message there entered s.
-    granted_before c.words_authorise.ensures c.clear_where_granted.ensures.covered m h lines last told.answers told.printed i e side moment message there entered s
+    granted_before c.words_authorise.ensures c.clear_where_granted.ensures.answered m h lines last told.answers told.printed i e side moment message there entered s

@@ -1,5 +1,5 @@
 use Rattle.std.proofs.Common.{◌≡◌, length}
-use Rattle.hsm_session.specs.Booking.{IsKnown}
+use Rattle.hsm_auth.specs.History.{IsKnown}
 use Rattle.hsm_session.proofs.Answering.{Answers}
 use Rattle.hsm_session.proofs.lane.answer_held.Given as goal
 

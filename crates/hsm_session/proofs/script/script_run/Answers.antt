@@ -21,7 +21,7 @@ lines-init g c =
       room = omega (arith, c.in-Ok.ensures.entries, c.in-Ok.ensures.held);
       lines = within.0;
       moment = omega (arith, c.in-Ok.ensures.at.moment);
-      known = c.requires.known;
+      known = c.facts.ensures.known;
       kept = refl;
     }
 
@@ -46,7 +46,7 @@ lines-preserved g c =
       room = omega (arith, takes.spent, c.lines.invariant.room, ap (λ (left : List Line). sum_by weight (all_said left)) here, sum_by-cons weight (said_of line) later);
       lines = lines.1;
       moment = c.in-Ok-take_line.ensures.moment;
-      known = so_far_known m all later c.take_line.new.self c.args.ledger.now c.take_line.new.ledger before after next c.requires.known;
+      known = so_far_known m all later c.take_line.new.self c.args.ledger.now c.take_line.new.ledger before after next c.facts.ensures.known;
       kept = c.in-Ok-take_line.ensures.kept ∙ c.lines.invariant.kept;
     }
 

@@ -13,6 +13,8 @@ messages-preserved g c =
     let lane = c.args.tools.now.lane in
     let held = rw c.in-Message.is at c.next.follows.holds-at-none in
     let left = c.next.follows.lender-at-none in
+    let new = c.book_message.new in
+    let traffic = g.K.Link.traffic c.messages.link in
     record {
       desk = c.book_message.ensures.desk ∙ c.messages.invariant.desk;
       least = held.2 ∙ c.messages.invariant.least;
@@ -20,9 +22,10 @@ messages-preserved g c =
       kept = c.in-Ok.ensures.kept ∙ c.messages.invariant.kept;
       lane = c.messages.invariant.lane;
       going = λ start begun.
-          let booked = c.book_message.ensures.booked start (g.K.Link.traffic c.messages.link) left.bytes c.messages.tools.out.items
+          let booked = c.book_message.ensures.booked start traffic left.bytes c.messages.tools.out.items
           (going_at m c.args.kind lane start _ _ _ _ _ held.1 (c.messages.invariant.going start begun)) in
-          going_gathers m c.args.kind lane start _ (g.K.Link.traffic c.gather.new.link) left.bytes c.messages.tools.out.items _ _ c.bytes.result.now _
+          going_gathers m c.args.kind lane start
+          (scene new.pass (g.C.Clock.last new.clock) (g.C.Clock.to_come new.clock) (g.G.Gate.calls new.gate) traffic) (g.K.Link.traffic c.gather.new.link) left.bytes c.messages.tools.out.items _ _ c.bytes.result.now _
           c.bytes.ensures.bytes c.in-Ok.ensures.ok booked;
     }
 

@@ -27,4 +27,4 @@ returns-clause-booked g c = λ start traffic rest out going.
     (going_books m kind lane start old new (g.G.Gate.calls c.before_book.new.self) c.args.message.now rest out c.finish.new.reply c.args.count.now
     c.ask.result granted place c.words_authorise.ensures (c.requires.least, omega (arith, c.requires.most)) (c.ask.ensures ∙ c.prepare-plan.ensures.ask) answered
     c.book-booked.ensures.entry c.book-booked.ensures.own c.book-booked.ensures.sound c.book-booked.ensures.moment
-    c.before_book.ensures c.after_book.ensures refl going)
+    c.before_book.ensures.told c.after_book.ensures.told refl going)

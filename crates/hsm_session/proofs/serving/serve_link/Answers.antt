@@ -1,10 +1,11 @@
-use Rattle.std.proofs.Common.{◌≡◌, ◌∙◌, ℕ, [], ap, refl, subst, sym, arith}
+use Rattle.std.proofs.Common.{◌≡◌, ◌∙◌, ℕ, [], Option, None, ap, refl, subst, sym, arith}
 use Rattle.hsm_frame.specs.Calls.{Held}
+use Rattle.hsm_session.specs.declared.serving.ConnEnd.{ConnEnd}
 use Rattle.hsm_session.specs.declared.serving.Count.{Count}
 use Rattle.hsm_session.specs.declared.serving.Report.{Report}
 use Rattle.hsm_session.specs.Connections.{Serves, scene}
 use Rattle.hsm_session.specs.Plans.{least_for}
-use Rattle.hsm_session.specs.Serving.{Steps, holding}
+use Rattle.hsm_session.specs.Serving.{StepCause, Steps, holding}
 use Rattle.hsm_session.proofs.Talking.{starts_at, waits_at_start}
 use Rattle.hsm_session.proofs.serving.serve_link.Goals as goal
 
@@ -26,7 +27,30 @@ pieces-init g c =
     }
 
 pub pieces-preserved : goal.pieces-preserved
-pieces-preserved g c = ?
+pieces-preserved g c =
+    let m = c.args.module.now in
+    let kind = c.args.kind in
+    let old = c.pieces.tools in
+    let new = c.serve_piece.new.tools in
+    let earlier = scene old.pass (g.C.Clock.last old.clock) (g.C.Clock.to_come old.clock) (g.G.Gate.calls old.gate) (g.K.Link.traffic c.pieces.link) in
+    let now = scene new.pass (g.C.Clock.last new.clock) (g.C.Clock.to_come new.clock) (g.G.Gate.calls new.gate) (g.K.Link.traffic c.serve_piece.new.link) in
+    let held = holding old.frames.bytes old.out.items c.pieces.count in
+    let left = holding new.frames.bytes new.out.items c.serve_piece.new.count in
+    let steps : Steps m kind c.args.tools.now.lane earlier now held left None =
+    subst (λ (lane : ℕ). Steps m kind lane earlier now held left None) c.pieces.invariant.lane
+    (subst (λ (ended : Option ConnEnd). Steps m kind old.lane earlier now held left ended) c.in_default.is c.serve_piece.ensures.steps) in
+    let kept : g.K.Link.faults c.serve_piece.new.link ≡ g.K.Link.faults c.pieces.link =
+    subst (λ (ended : Option ConnEnd). StepCause (g.K.Link.faults c.pieces.link) (g.K.Link.faults c.serve_piece.new.link) (g.K.Link.last_was_read c.serve_piece.new.link) ended)
+    c.in_default.is c.serve_piece.ensures.cause in
+    record {
+      desk = c.serve_piece.ensures.desk ∙ c.pieces.invariant.desk;
+      least = c.serve_piece.ensures.frames ∙ c.pieces.invariant.least;
+      waits = steps.0;
+      counted = c.serve_piece.ensures.counted;
+      kept = kept ∙ c.pieces.invariant.kept;
+      lane = c.serve_piece.ensures.lane ∙ c.pieces.invariant.lane;
+      going = steps.1 _ c.pieces.invariant.going;
+    }
 
 pub returns-in-Some-serve_piece-clause-serves : goal.returns-in-Some-serve_piece-clause-serves
 returns-in-Some-serve_piece-clause-serves g c =

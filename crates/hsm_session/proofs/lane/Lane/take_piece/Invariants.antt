@@ -1,6 +1,6 @@
 use Rattle.std.proofs.Common.{◌≡◌, ◌<◌, ◌++◌, length, None, List, ℕ}
 use Rattle.hsm_frame.specs.Calls.{IsNotYet}
-use Rattle.hsm_session.specs.Booking.{IsKnown}
+use Rattle.hsm_auth.specs.History.{IsKnown}
 use Rattle.hsm_session.proofs.Feeding.{Feeds}
 use Rattle.hsm_session.proofs.lane.Lane.take_piece.Given as goal
 
