@@ -75,23 +75,28 @@ fn failing_outputs(rt: HostRuntime) -> Result<(), Fail> {
     Ok(())
 }
 
-// Files of the greatest length, and of one byte more, as a configuration and as a script.
+// Files of the greatest length and of one byte more, as a configuration and as a script.
 #[test]
-fn longest_files(rt: HostRuntime) -> Result<(), Fail> {
+fn longest_configurations(rt: HostRuntime) -> Result<(), Fail> {
     let alloc = rt.alloc();
     let not_toml = Outcome::ConfigRefused(ConfigFault::NotToml);
-    let long = Outcome::FileLong;
+    for (size, outcome) in [(FILE_LIMIT, not_toml), (FILE_LIMIT + 1, Outcome::FileLong)] {
+        let config = vec![in alloc; 0u8; size]?;
+        let over = runs_with(&rt, &["check", "c"], &PLAIN, config, Vec::new(alloc), &[])?;
+        assert_eq!(rt; (over.ended.status, over.ended.outcome), (4, outcome));
+    }
+    Ok(())
+}
+
+#[test]
+fn longest_scripts(rt: HostRuntime) -> Result<(), Fail> {
+    let alloc = rt.alloc();
     let no_script = Outcome::ScriptRefused(1);
-    let cases = [(FILE_LIMIT, not_toml, no_script), (FILE_LIMIT + 1, long, long)];
-    let words: &[&str] = &["script", "c", "f"];
-    for (size, of_config, of_script) in cases {
-        let file = vec![in alloc; 0u8; size]?;
-        let over = runs_with(&rt, words, &PLAIN, file, Vec::new(alloc), &[])?;
-        assert_eq!(rt; (over.ended.status, over.ended.outcome), (4, of_config));
+    for (size, outcome) in [(FILE_LIMIT, no_script), (FILE_LIMIT + 1, Outcome::FileLong)] {
         let config = PLAIN.config.to_vec(alloc)?;
-        let file = vec![in alloc; 0u8; size]?;
-        let over = runs_with(&rt, words, &PLAIN, config, file, &[])?;
-        assert_eq!(rt; (over.ended.status, over.ended.outcome), (4, of_script));
+        let script = vec![in alloc; 0u8; size]?;
+        let over = runs_with(&rt, &["script", "c", "f"], &PLAIN, config, script, &[])?;
+        assert_eq!(rt; (over.ended.status, over.ended.outcome), (4, outcome));
     }
     Ok(())
 }
