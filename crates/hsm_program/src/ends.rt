@@ -1,6 +1,7 @@
 //! The lanes after they were served: their passes joined, the status, and the lines.
 
 ghost use Rattle.std.specs.Prelude.{◌≡◌, ◌≤◌, ◌<◌, ◌^◌, [], All, IfSome, IsSome, OnOk, OnErr, length, map};
+ghost use Rattle.std.specs.List.{list_any};
 ghost use Rattle.std.specs.Vec.{vec_capacity};
 ghost use Rattle.hsm_desk.specs.Passes.{IsWhole, OnlyKin};
 ghost use Rattle.hsm_io.specs.Outside.{Rose};
@@ -75,15 +76,30 @@ fn is_cut(ended: ConnEnd) -> bool
     matches!(ended, ConnEnd::Cut | ConnEnd::Short(_))
 }
 
+fn has_fault(reports: &[Report]) -> bool
+    ensures { result ≡ list_any (λ report. is_fault report.ended) reports.now }
+{
+    reports.iter().any(|report| is_fault(report.ended))
+}
+
+fn has_cut(reports: &[Report]) -> bool
+    ensures { result ≡ list_any (λ report. is_cut report.ended) reports.now }
+{
+    reports.iter().any(|report| is_cut(report.ended))
+}
+
 /// The exit status after serving: 7 where a read or a write of a connection or a door failed; else 6 where a connection was cut or ended by
 /// a short frame; else 0.
 pub(crate) fn status_of<D: Door>(ends: &[LaneEnd<D>]) -> u8
     ensures { result ≡ status_of_lanes (lane_views D.doorway D.faults D.broken ends.now) }
 {
-    if ends.iter().any(|end| end.door_fault || end.reports.iter().any(|report| is_fault(report.ended))) {
+    if ends
+        .iter()
+        .any(|end| end.door_fault || has_fault(&end.reports))
+    {
         return 7;
     }
-    if ends.iter().any(|end| end.reports.iter().any(|report| is_cut(report.ended))) {
+    if ends.iter().any(|end| has_cut(&end.reports)) {
         return 6;
     }
     0

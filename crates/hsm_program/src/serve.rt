@@ -65,7 +65,7 @@ where
     let Ok(mut ends) = Vec::with_capacity(alloc, lanes.len()) else {
         return Err(LanesFault::Memory);
     };
-    run_lanes(rt, &module, &desk, &mut lanes);
+    run_lanes(rt, &module, &desk, lanes.as_mut_slice());
     let pass = end_lanes(&desk, lanes, &mut ends);
     Ok(Over { pass, ends })
 }

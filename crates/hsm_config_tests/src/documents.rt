@@ -1,6 +1,6 @@
-//! Documents that are read, and documents that break each rule, alone and in pairs.
-//! The digests are those of SHA-256 for the words abc and hello, by Python's hashlib.
-use crate::{Config, ConfigFault};
+// Documents that are read, and documents that break each rule.
+// The digests are those of SHA-256 for the words abc and hello, by Python's hashlib.
+use hsm_config::{Config, ConfigFault};
 use std::alloc::{AllocError, Global};
 use std::process::Abort;
 use std::test::Fail;
@@ -207,40 +207,6 @@ fn refuses_pairs(rt: &impl Abort, alloc: Global) -> Result<(), Fail> {
     Ok(())
 }
 
-// A broken rule is told, and of two broken rules the first.
-fn tells_the_first(rt: &impl Abort, alloc: Global) -> Result<(), Fail> {
-    let even = pairs_line(alloc, 20, "133457799BBCDFF1133457799BBCDFF0")?;
-    let breaks: [(usize, &str); 10] = [
-        (7, "extra = 1"),
-        (0, ""),
-        (1, "header = 256"),
-        (2, "officers = []"),
-        (3, "lmk = \"T\""),
-        (3, even.as_str()),
-        (4, "console_port = 0"),
-        (5, "host_ports = []"),
-        (5, "host_ports = [1501, 1501]"),
-        (6, "accept = 4097"),
-    ];
-    for first in 0..10 {
-        let (place, line) = breaks[first];
-        let mut lines = LINES;
-        lines[place] = line;
-        for second in first..10 {
-            let (other, broken) = breaks[second];
-            // Two of one line can't both be broken here.
-            if other != place || second == first {
-                let text = changed(alloc, &lines, other, broken)?;
-                assert_eq!(rt;
-                    fault_of(alloc, text.as_bytes()),
-                    Some(ConfigFault::Rule(first as u64 + 1))
-                );
-            }
-        }
-    }
-    Ok(())
-}
-
 #[test]
 fn documents(rt: HostRuntime) -> Result<(), Fail> {
     let alloc = rt.alloc();
@@ -248,7 +214,6 @@ fn documents(rt: HostRuntime) -> Result<(), Fail> {
     reads_other_values(&rt, alloc)?;
     refuses_broken_lines(&rt, alloc)?;
     refuses_pairs(&rt, alloc)?;
-    tells_the_first(&rt, alloc)?;
     for bytes in [
         b"[".as_slice(),
         b"version = 1\nversion = 1\n",
@@ -259,5 +224,17 @@ fn documents(rt: HostRuntime) -> Result<(), Fail> {
     }
     // Nothing is a document without keys.
     assert_eq!(rt; fault_of(alloc, b""), Some(ConfigFault::Rule(2)));
+    let text = format!(in alloc;
+        "{}; {}; {}",
+        ConfigFault::Memory,
+        ConfigFault::NotToml,
+        ConfigFault::Rule(10)
+    )?;
+    assert_eq!(rt;
+        text.as_str(),
+        "out of memory; \
+         the configuration is no TOML document; \
+         the configuration breaks rule 10"
+    );
     Ok(())
 }
