@@ -93,13 +93,20 @@ fn cancels_while_held(
     let module = module_of(alloc, Set::T, 1)?;
     let (desk, mut pass) = Desk::new(alloc, Ledger::new(alloc)?)?;
     let mut lanes = Vec::new(alloc);
-    for (number, input, chunk) in [(0, TEXTS, 5), (1, ASKED, 36)] {
-        let own = desk.split(&mut pass);
-        let door = door_of(alloc, &[input], chunk, &[], &[])?;
-        let clock = clock_of(&[7, 8]);
-        let gate = Holding { progress };
-        add(alloc, &module, &desk, &mut lanes, number, 1, own, door, clock, gate)?;
-    }
+    let own = desk.split(&mut pass);
+    let door = door_of(alloc, &[TEXTS], 5, &[], &[])?;
+    let clock = clock_of(&[7, 8]);
+    let gate = Holding { progress };
+    add(
+        alloc, &module, &desk, &mut lanes, 0, 1, own, door, clock, gate,
+    )?;
+    let own = desk.split(&mut pass);
+    let door = door_of(alloc, &[ASKED], 36, &[], &[])?;
+    let clock = clock_of(&[7, 8]);
+    let gate = Holding { progress };
+    add(
+        alloc, &module, &desk, &mut lanes, 1, 1, own, door, clock, gate,
+    )?;
     run_all(rt, &module, &desk, &mut lanes);
     let host = take_last(&desk, &mut pass, &mut lanes).ok_or("host")?;
     let console = take_last(&desk, &mut pass, &mut lanes).ok_or("console")?;

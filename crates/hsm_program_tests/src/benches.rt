@@ -1,5 +1,5 @@
 // Benches in memory, and what the words of a test come to over them.
-ghost use Rattle.std.specs.Prelude.{◌≡◌, ◌<◌, [], None, IfOk};
+ghost use Rattle.std.specs.Prelude.{◌≡◌, [], None, All, IfOk};
 ghost use Rattle.hsm_io.specs.MemoryLinks.{IsUntouched};
 ghost use Rattle.hsm_io.specs.MemoryBench.{IsNewDoor};
 

@@ -79,6 +79,43 @@ fn hosts_of_several_connections(rt: HostRuntime) -> Result<(), Fail> {
     Ok(())
 }
 
+// One host, and one connection a lane, under the LMKs of the test laboratory.
+const ONCE: &[u8] = br#"
+version = 1
+header = 4
+officers = ["ba7816bf8f01cfea414140de5dae2223b00361a396177a9cb410ff61f20015ad",
+            "2cf24dba5fb0a30e26e83b2ac5b9e29e1b161e5c1fa7425e73043362938b9824"]
+console_port = 2
+host_ports = [1]
+accept = 1
+lmk = "test"
+"#;
+
+#[test]
+fn as_many_as_accepted(rt: HostRuntime) -> Result<(), Fail> {
+    let echoed = b"\x00\x0C0001B20002AB".as_slice();
+    // A door is not asked for a connection behind the last that is accepted.
+    let console = Port {
+        bad_nexts: &[1],
+        ..sound(2, &[b"\x00\x02VA"])
+    };
+    let ports = [sound(1, &[echoed, echoed]), console];
+    let setup = Setup {
+        config: ONCE,
+        ports: &ports,
+        ..PLAIN
+    };
+    let over = runs(&rt, &["serve", "c"], &setup, &[])?;
+    assert_eq!(rt; (over.ended.status, over.ended.outcome), (0, Outcome::Served));
+    let lines = b"lane 0: 1 connections, 1 messages\nlane 1: 1 connections, 1 messages\n".as_slice();
+    assert_eq!(rt; over.out.bytes(), lines);
+    let clean = ConnEnd::Clean;
+    assert_eq!(rt; told(&over, 0, 0), Some((clean, 1, b"\x00\x04OK 0".as_slice())));
+    assert_eq!(rt; told(&over, 1, 0), Some((clean, 1, b"\x00\x0A0001B300AB".as_slice())));
+    assert_eq!(rt; told(&over, 1, 1), None);
+    Ok(())
+}
+
 // What lane 1 is given, its calls that fail, and the calls of `next` that fail at lane 2. Then the status, the lines, how the first connection of lane 1 ended, where
 // there is one, and whether the door of lane 1 failed.
 #[derive(Clone, Copy)]

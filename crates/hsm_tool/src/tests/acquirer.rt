@@ -1,14 +1,16 @@
 // Two hosts and the console over sockets, of which the first host is held until the second was answered; then an acquirer's day of the first.
 // bench/socket_rows.py computes the messages.
-ghost use Rattle.std.specs.Prelude.{None, All};
+ghost use Rattle.std.specs.Prelude.{◌≡◌, None, All, OnOk};
+ghost use Rattle.std.specs.Thread.{IsSync};
 ghost use Rattle.hsm_server.specs.Lanes.{IsReady, lane_state};
 
 use super::connections::{add, module_of};
 use super::*;
 use hsm_auth::Ledger;
-use hsm_desk::Desk;
+use hsm_desk::{Desk, Pass};
 use hsm_io::Gate;
-use hsm_server::run_lanes;
+use hsm_rows::Module;
+use hsm_server::{Lane, run_lanes};
 use hsm_session::ConnEnd;
 use std::io::{Read, Write};
 use std::net::TcpStream;
@@ -160,10 +162,21 @@ struct Replies {
 }
 
 // Lets the three clients ask beside one another, at these ports.
-fn ask_all<R: Threads + Sync>(runtime: &R, rt: &HostRuntime, ports: [u16; 3], progress: &Progress) -> Replies {
+fn ask_all<R: Threads + Sync>(
+    runtime: &R,
+    rt: &HostRuntime,
+    ports: [u16; 3],
+    progress: &Progress,
+) -> Replies {
     let ((console, first), second) = thread::join(
         runtime,
-        || thread::join(runtime, || console(rt, ports[0]), || first_host(rt, ports[1])),
+        || {
+            thread::join(
+                runtime,
+                || console(rt, ports[0]),
+                || first_host(rt, ports[1]),
+            )
+        },
         || second_host(rt, ports[2], progress),
     );
     Replies {
@@ -171,6 +184,48 @@ fn ask_all<R: Threads + Sync>(runtime: &R, rt: &HostRuntime, ports: [u16; 3], pr
         first,
         second,
     }
+}
+
+// Adds a lane at a port that nobody else has, and gives the port.
+fn open_lane<'a>(
+    rt: &'a HostRuntime,
+    module: &Module,
+    desk: &Desk,
+    lanes: &mut Vec<Lane<SystemDoor, SystemClock<'a>, Holding<'a>>>,
+    number: u32,
+    pass: Pass,
+    progress: &'a Progress,
+) -> Result<u16, Fail>
+    requires pass { pass.desk ≡ desk.now }
+    requires ready { All (λ lane. IsReady «module».now desk.now (lane_state SystemDoor.doorway SystemDoor.faults SystemDoor.broken SystemDoor.is_out SystemClock.last SystemClock.to_come Holding.calls lane)) lanes.old.items }
+    ensures ready { OnOk result (All (λ lane. IsReady «module».now desk.now (lane_state SystemDoor.doorway SystemDoor.faults SystemDoor.broken SystemDoor.is_out SystemClock.last SystemClock.to_come Holding.calls lane)) lanes.new.items) }
+{
+    let (door, port) = any_door(rt)?;
+    let gate = Holding { rt, progress };
+    add(rt, module, desk, lanes, number, pass, door, gate)?;
+    Ok(port)
+}
+
+// Runs the lanes beside their clients.
+fn run_beside<'a, R: Threads + Wait + Sync>(
+    runtime: &R,
+    rt: &HostRuntime,
+    module: &Module,
+    desk: &Desk,
+    lanes: &mut Vec<Lane<SystemDoor, SystemClock<'a>, Holding<'a>>>,
+    ports: [u16; 3],
+    progress: &Progress,
+) -> Replies
+    requires ready { All (λ lane. IsReady «module».now desk.now (lane_state SystemDoor.doorway SystemDoor.faults SystemDoor.broken SystemDoor.is_out SystemClock.last SystemClock.to_come Holding.calls lane)) lanes.old.items }
+{
+    let (replies, _) = thread::join(
+        runtime,
+        || ask_all(runtime, rt, ports, progress),
+        ||
+            requires { IsSync R.row × All (λ lane. IsReady «module».now desk.now (lane_state SystemDoor.doorway SystemDoor.faults SystemDoor.broken SystemDoor.is_out SystemClock.last SystemClock.to_come Holding.calls lane)) lanes.now.items }
+        { run_lanes(runtime, module, desk, lanes.as_mut_slice()) },
+    );
+    replies
 }
 
 // The check of the LMKs, which no draw changes.
@@ -192,21 +247,13 @@ fn acquirers_day(rt: HostRuntime) -> Result<(), Fail> {
     let progress = Progress::new();
     let mut lanes = Vec::new(alloc);
     let mut ports = [0; 3];
-    for number in 0..3u32 {
-        let own = desk.split(&mut pass);
-        let (door, port) = any_door(&rt)?;
-        ports[number as usize] = port;
-        let gate = Holding {
-            rt: &rt,
-            progress: &progress,
-        };
-        add(&rt, &module, &desk, &mut lanes, number, own, door, gate)?;
-    }
-    let (_, replies) = thread::join(
-        &rt,
-        || run_lanes(&rt, &module, &desk, lanes.as_mut_slice()),
-        || ask_all(&rt, &rt, ports, &progress),
-    );
+    let own = desk.split(&mut pass);
+    ports[0] = open_lane(&rt, &module, &desk, &mut lanes, 0, own, &progress)?;
+    let own = desk.split(&mut pass);
+    ports[1] = open_lane(&rt, &module, &desk, &mut lanes, 1, own, &progress)?;
+    let own = desk.split(&mut pass);
+    ports[2] = open_lane(&rt, &module, &desk, &mut lanes, 2, own, &progress)?;
+    let replies = run_beside(&rt, &rt, &module, &desk, &mut lanes, ports, &progress);
     assert!(rt; !progress.in_vain.load(Ordering::SeqCst));
     let Replies {
         console,
