@@ -11,3 +11,4 @@ pub mod Opening
 pub mod Joining
 pub mod Served
 pub mod Apart
+pub mod Printing
