@@ -22,7 +22,8 @@ const TURNS: u32 = 50_000_000;
 const TEXTS: &[u8] = b"\x00\x17A pin.clear 0 abc hello\x00\x03C *\x00\x02VA";
 
 // The PIN 4621 for the account 123456789012, asked for twice.
-const ASKED: &[u8] = b"\x00\x220001NG123456789012FEB654057793C1C3\x00\x220001NG123456789012FEB654057793C1C3";
+const ASKED: &[u8] =
+    b"\x00\x220001NG123456789012FEB654057793C1C3\x00\x220001NG123456789012FEB654057793C1C3";
 
 // How far the lanes have got, and whether one of them looked in vain.
 #[derive(Drop)]

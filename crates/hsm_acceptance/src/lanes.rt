@@ -106,7 +106,12 @@ pub(crate) fn add<D: Door + Send + Drop, C: Clock + Send + Drop, G: Gate + Send 
 }
 
 // Runs the lanes.
-pub(crate) fn run_all<R, D, C, G>(rt: &R, module: &Module, desk: &Desk, lanes: &mut Vec<Lane<D, C, G>>)
+pub(crate) fn run_all<R, D, C, G>(
+    rt: &R,
+    module: &Module,
+    desk: &Desk,
+    lanes: &mut Vec<Lane<D, C, G>>,
+)
 where
     R: Threads + Wait + Sync,
     D: Door + Send,

@@ -56,7 +56,11 @@ fn failing_outputs(rt: HostRuntime) -> Result<(), Fail> {
         (&["check", "c"], &[0], b""),
         (&["script", "c", "f"], &[0], b""),
         // What was written before the failing write stays.
-        (&["script", "c", "f"], &[1], b"L1 000E3030303142563030443544343446\n"),
+        (
+            &["script", "c", "f"],
+            &[1],
+            b"L1 000E3030303142563030443544343446\n",
+        ),
     ];
     for (words, bad_writes, output) in cases {
         let case = Case {

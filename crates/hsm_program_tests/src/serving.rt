@@ -16,7 +16,8 @@ const TWO: &[u8] = b"\x00\x0E0001BV00D5D44F\x00\x0E0001BV00D5D44F";
 // The officers allow PINs in the clear for a minute, which is over at the next text.
 const TEXTS: &[u8] = b"\x00\x17A pin.clear 1 abc hello\x00\x02VA";
 
-const QUIET_LINES: &[u8] = b"lane 0: 0 connections, 0 messages\nlane 1: 0 connections, 0 messages\nlane 2: 0 connections, 0 messages\n";
+const QUIET_LINES: &[u8] =
+    b"lane 0: 0 connections, 0 messages\nlane 1: 0 connections, 0 messages\nlane 2: 0 connections, 0 messages\n";
 
 // How a connection ended, how many of its messages were booked, and what was written to it.
 fn told(over: &Over, lane: usize, connection: usize) -> Option<(ConnEnd, u64, &[u8])> {
@@ -34,7 +35,10 @@ fn serves(
 ) -> Result<Over, Fail> {
     let setup = Setup { ports, ..PLAIN };
     let over = runs(rt, &["serve", "c"], &setup, &[])?;
-    assert_eq!(rt; (over.ended.status, over.ended.outcome), (status, Outcome::Served));
+    assert_eq!(rt;
+        (over.ended.status, over.ended.outcome),
+        (status, Outcome::Served)
+    );
     assert_eq!(rt; over.out.bytes(), output);
     assert_eq!(rt; over.ended.lanes.len(), 3);
     assert!(rt; over.ended.pass.is_some());
@@ -49,10 +53,14 @@ fn console_beside_hosts(rt: HostRuntime) -> Result<(), Fail> {
         sound(1501, &[ASKED]),
         sound(1502, &[]),
     ];
-    let lines = b"lane 0: 2 connections, 3 messages\nlane 1: 1 connections, 1 messages\nlane 2: 0 connections, 0 messages\n";
+    let lines =
+        b"lane 0: 2 connections, 3 messages\nlane 1: 1 connections, 1 messages\nlane 2: 0 connections, 0 messages\n";
     let over = serves(&rt, &ports, 0, lines)?;
     let clean = ConnEnd::Clean;
-    assert_eq!(rt; told(&over, 0, 0), Some((clean, 2, b"\x00\x02OK\x00\x04OK 0".as_slice())));
+    assert_eq!(rt;
+        told(&over, 0, 0),
+        Some((clean, 2, b"\x00\x02OK\x00\x04OK 0".as_slice()))
+    );
     assert_eq!(rt; told(&over, 1, 0), Some((clean, 1, ANSWERED)));
     assert_eq!(rt; told(&over, 1, 1), None);
     assert_eq!(rt; told(&over, 2, 0), None);
@@ -68,7 +76,8 @@ fn hosts_of_several_connections(rt: HostRuntime) -> Result<(), Fail> {
         sound(1501, &[ASKED]),
         sound(1500, &[]),
     ];
-    let lines = b"lane 0: 0 connections, 0 messages\nlane 1: 1 connections, 1 messages\nlane 2: 3 connections, 3 messages\n";
+    let lines =
+        b"lane 0: 0 connections, 0 messages\nlane 1: 1 connections, 1 messages\nlane 2: 3 connections, 3 messages\n";
     let over = serves(&rt, &ports, 0, lines)?;
     let clean = ConnEnd::Clean;
     assert_eq!(rt; told(&over, 1, 0), Some((clean, 1, ANSWERED)));
@@ -93,25 +102,36 @@ lmk = "test"
 
 #[test]
 fn as_many_as_accepted(rt: HostRuntime) -> Result<(), Fail> {
-    let echoed = b"\x00\x0C0001B20002AB".as_slice();
+    let echoed = [b"\x00\x0C0001B20002AB".as_slice(), b""];
+    let texts = [b"\x00\x02VA".as_slice()];
     // A door is not asked for a connection behind the last that is accepted.
     let console = Port {
         bad_nexts: &[1],
-        ..sound(2, &[b"\x00\x02VA"])
+        ..sound(2, &texts)
     };
-    let ports = [sound(1, &[echoed, echoed]), console];
+    let ports = [sound(1, &echoed), console];
     let setup = Setup {
         config: ONCE,
         ports: &ports,
         ..PLAIN
     };
     let over = runs(&rt, &["serve", "c"], &setup, &[])?;
-    assert_eq!(rt; (over.ended.status, over.ended.outcome), (0, Outcome::Served));
-    let lines = b"lane 0: 1 connections, 1 messages\nlane 1: 1 connections, 1 messages\n".as_slice();
+    assert_eq!(rt;
+        (over.ended.status, over.ended.outcome),
+        (0, Outcome::Served)
+    );
+    let lines =
+        b"lane 0: 1 connections, 1 messages\nlane 1: 1 connections, 1 messages\n".as_slice();
     assert_eq!(rt; over.out.bytes(), lines);
     let clean = ConnEnd::Clean;
-    assert_eq!(rt; told(&over, 0, 0), Some((clean, 1, b"\x00\x04OK 0".as_slice())));
-    assert_eq!(rt; told(&over, 1, 0), Some((clean, 1, b"\x00\x0A0001B300AB".as_slice())));
+    assert_eq!(rt;
+        told(&over, 0, 0),
+        Some((clean, 1, b"\x00\x04OK 0".as_slice()))
+    );
+    assert_eq!(rt;
+        told(&over, 1, 0),
+        Some((clean, 1, b"\x00\x0A0001B300AB".as_slice()))
+    );
     assert_eq!(rt; told(&over, 1, 1), None);
     Ok(())
 }
@@ -131,11 +151,14 @@ struct Case {
     door_fault: bool,
 }
 
-const NONE: &[u8] = b"lane 0: 0 connections, 0 messages\nlane 1: 1 connections, 0 messages\nlane 2: 0 connections, 0 messages\n";
+const NONE: &[u8] =
+    b"lane 0: 0 connections, 0 messages\nlane 1: 1 connections, 0 messages\nlane 2: 0 connections, 0 messages\n";
 
-const ONE: &[u8] = b"lane 0: 0 connections, 0 messages\nlane 1: 1 connections, 1 messages\nlane 2: 0 connections, 0 messages\n";
+const ONE: &[u8] =
+    b"lane 0: 0 connections, 0 messages\nlane 1: 1 connections, 1 messages\nlane 2: 0 connections, 0 messages\n";
 
-const BOTH: &[u8] = b"lane 0: 0 connections, 0 messages\nlane 1: 1 connections, 2 messages\nlane 2: 0 connections, 0 messages\n";
+const BOTH: &[u8] =
+    b"lane 0: 0 connections, 0 messages\nlane 1: 1 connections, 2 messages\nlane 2: 0 connections, 0 messages\n";
 
 fn serves_case(
     rt: &(impl Abort + Alloc<A = Global> + Threads + Wait + Sync),
@@ -152,7 +175,12 @@ fn serves_case(
         bad_nexts: case.others,
         ..sound(1502, &[])
     };
-    let over = serves(rt, &[sound(1500, &[]), first, second], case.status, case.lines)?;
+    let over = serves(
+        rt,
+        &[sound(1500, &[]), first, second],
+        case.status,
+        case.lines,
+    )?;
     assert_eq!(rt; told(&over, 1, 0), case.told);
     let end = over.ended.lanes.get(1).ok_or("lane")?;
     assert_eq!(rt; end.door_fault, case.door_fault);
@@ -258,7 +286,8 @@ fn console_cut(rt: HostRuntime) -> Result<(), Fail> {
         sound(1501, &[]),
         sound(1502, &[]),
     ];
-    let lines = b"lane 0: 1 connections, 0 messages\nlane 1: 0 connections, 0 messages\nlane 2: 0 connections, 0 messages\n";
+    let lines =
+        b"lane 0: 1 connections, 0 messages\nlane 1: 0 connections, 0 messages\nlane 2: 0 connections, 0 messages\n";
     let over = serves(&rt, &ports, 6, lines)?;
     assert_eq!(rt; told(&over, 0, 0), Some((ConnEnd::Cut, 0, b"".as_slice())));
     Ok(())
@@ -270,7 +299,10 @@ fn lines_not_written(rt: HostRuntime) -> Result<(), Fail> {
     let cases: [(u32, &[u8]); 3] = [
         (0, b""),
         (1, b"lane 0: 0 connections, 0 messages\n"),
-        (2, b"lane 0: 0 connections, 0 messages\nlane 1: 1 connections, 2 messages\n"),
+        (
+            2,
+            b"lane 0: 0 connections, 0 messages\nlane 1: 1 connections, 2 messages\n",
+        ),
     ];
     let failing = Port {
         bad_nexts: &[0],
@@ -283,7 +315,10 @@ fn lines_not_written(rt: HostRuntime) -> Result<(), Fail> {
     };
     for (write, output) in cases {
         let over = runs(&rt, &["serve", "c"], &setup, &[write])?;
-        assert_eq!(rt; (over.ended.status, over.ended.outcome), (3, Outcome::OutFault));
+        assert_eq!(rt;
+            (over.ended.status, over.ended.outcome),
+            (3, Outcome::OutFault)
+        );
         assert_eq!(rt; over.out.bytes(), output);
         assert_eq!(rt; over.ended.lanes.len(), 3);
         assert!(rt; over.ended.pass.is_some());

@@ -91,7 +91,9 @@ fn any_door(rt: &HostRuntime) -> Result<(SystemDoor, u16), Fail>
 // A configuration with these LMKs, one host port, and one connection a lane.
 fn settings(alloc: Global, lmks: &str, console: u16, host: u16) -> Result<String, Fail> {
     let mut text = String::from_str(alloc, "version = 1\nheader = 4\naccept = 1\n")?;
-    text.push_str("officers = [\"ba7816bf8f01cfea414140de5dae2223b00361a396177a9cb410ff61f20015ad\", ")?;
+    text.push_str(
+        "officers = [\"ba7816bf8f01cfea414140de5dae2223b00361a396177a9cb410ff61f20015ad\", ",
+    )?;
     text.push_str("\"2cf24dba5fb0a30e26e83b2ac5b9e29e1b161e5c1fa7425e73043362938b9824\"]\n")?;
     let ports = format!(in alloc; "console_port = {console}\nhost_ports = [{host}]\n")?;
     text.push_str(&ports)?;
@@ -114,7 +116,11 @@ fn ports_taken(rt: HostRuntime) -> Result<(), Fail> {
         let mut outcome = Outcome::Served;
         for _ in 0..10 {
             let other = free_port(&rt)?;
-            let (console, host) = if is_free { (other, port) } else { (port, other) };
+            let (console, host) = if is_free {
+                (other, port)
+            } else {
+                (port, other)
+            };
             let text = settings(alloc, SET_T, console, host)?;
             fs::write(&rt, "settings.toml", text.as_bytes())?;
             let mut out = MemSink::new(alloc, 100, Vec::new(alloc))?;

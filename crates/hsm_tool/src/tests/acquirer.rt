@@ -70,7 +70,8 @@ impl<'a> Gate for Holding<'a> {
     fn before_book(&mut self, lane: u32, message: u64) {
         if lane == 1 && message == 1 {
             self.progress.asked_again.store(true, Ordering::SeqCst);
-            self.progress.look_for(self.rt, &self.progress.answered_again);
+            self.progress
+                .look_for(self.rt, &self.progress.answered_again);
         }
     }
 
@@ -117,12 +118,32 @@ fn first_host(rt: &HostRuntime, port: u16) -> io::Result<Vec<Vec<u8>>> {
     let mut replies = Vec::new(alloc);
     replies.push(ask(rt, &mut stream, b"0001NC")?)?;
     replies.push(ask(rt, &mut stream, b"0001NC")?)?;
-    let drawn = ask(rt, &mut stream, b"0001A01001U;0U9F9A79DCD106B37584C5D3D3C418F4AEX")?;
+    let drawn = ask(
+        rt,
+        &mut stream,
+        b"0001A01001U;0U9F9A79DCD106B37584C5D3D3C418F4AEX",
+    )?;
     let zpk = drawn.get(8..41).unwrap_or(b"");
-    let message = joined(alloc, &[b"0001CAD28DDC6EABBD41CE", zpk, b"12383E3F5E617278810101123456789012"])?;
+    let message = joined(
+        alloc,
+        &[
+            b"0001CAD28DDC6EABBD41CE",
+            zpk,
+            b"12383E3F5E617278810101123456789012",
+        ],
+    )?;
     let translated = ask(rt, &mut stream, &message)?;
     let block = translated.get(10..26).unwrap_or(b"");
-    let message = joined(alloc, &[b"0001EC", zpk, b"U32098F004A5488DBFBECB411DC94FF89", block, b"0112345678901212504"])?;
+    let message = joined(
+        alloc,
+        &[
+            b"0001EC",
+            zpk,
+            b"U32098F004A5488DBFBECB411DC94FF89",
+            block,
+            b"0112345678901212504",
+        ],
+    )?;
     let verified = ask(rt, &mut stream, &message)?;
     replies.push(drawn)?;
     replies.push(translated)?;
@@ -261,7 +282,18 @@ fn acquirers_day(rt: HostRuntime) -> Result<(), Fail> {
         second,
     } = replies;
     begin(&rt, &console?, &[b"OK", b"OK 1 pin.clear=0"]);
-    begin(&rt, &first?, &[CHECKED, CHECKED, b"0001A100U", b"0001CB0004", b"0001ED00", b"0001M700A701784F"]);
+    begin(
+        &rt,
+        &first?,
+        &[
+            CHECKED,
+            CHECKED,
+            b"0001A100U",
+            b"0001CB0004",
+            b"0001ED00",
+            b"0001M700A701784F",
+        ],
+    );
     begin(&rt, &second?, &[CHECKED, CHECKED]);
     for (lane, messages) in lanes.iter().zip([2, 6, 2]) {
         let report = lane.reports.first().ok_or("no report")?;
