@@ -1,16 +1,16 @@
 // Two hosts and the console over sockets, of which the first host is held until the second was answered; then an acquirer's day of the first.
 // bench/socket_rows.py computes the messages.
-ghost use Rattle.std.specs.Prelude.{◌≡◌, None, All, OnOk};
+ghost use Rattle.std.specs.Prelude.{None, All};
 ghost use Rattle.std.specs.Thread.{IsSync};
 ghost use Rattle.hsm_server.specs.Lanes.{IsReady, lane_state};
 
-use super::connections::{add, module_of};
+use super::connections::{add, module_of, run_all};
 use super::*;
 use hsm_auth::Ledger;
-use hsm_desk::{Desk, Pass};
-use hsm_io::Gate;
+use hsm_desk::Desk;
+use hsm_io::{Clock, Door, Gate};
 use hsm_rows::Module;
-use hsm_server::{Lane, run_lanes};
+use hsm_server::Lane;
 use hsm_session::ConnEnd;
 use std::io::{Read, Write};
 use std::net::TcpStream;
@@ -43,6 +43,11 @@ impl Progress {
             answered_again: AtomicBool::new(false),
             in_vain: AtomicBool::new(false),
         }
+    }
+
+    // A gate that tells and looks here.
+    fn gate<'a>(&'a self, rt: &'a HostRuntime) -> Holding<'a> {
+        Holding { rt, progress: self }
     }
 
     // Looks for a flag, a millisecond each turn.
@@ -83,10 +88,11 @@ impl<'a> Gate for Holding<'a> {
     }
 }
 
-// Sends a message, and gives its reply.
+// Sends a message of at most 1,000 bytes, and gives its reply.
 fn ask(rt: &HostRuntime, stream: &mut TcpStream, message: &[u8]) -> io::Result<Vec<u8>> {
     let mut frame = Vec::new(rt.alloc());
-    frame.extend_from_slice(&(message.len() as u16).to_be_bytes())?;
+    let length = message.len().min(1_000) as u16;
+    frame.extend_from_slice(&length.to_be_bytes())?;
     frame.extend_from_slice(message)?;
     stream.write_all(&frame)?;
     let mut size = [0; 2];
@@ -207,44 +213,29 @@ fn ask_all<R: Threads + Sync>(
     }
 }
 
-// Adds a lane at a port that nobody else has, and gives the port.
-fn open_lane<'a>(
-    rt: &'a HostRuntime,
-    module: &Module,
-    desk: &Desk,
-    lanes: &mut Vec<Lane<SystemDoor, SystemClock<'a>, Holding<'a>>>,
-    number: u32,
-    pass: Pass,
-    progress: &'a Progress,
-) -> Result<u16, Fail>
-    requires pass { pass.desk ≡ desk.now }
-    requires ready { All (λ lane. IsReady «module».now desk.now (lane_state SystemDoor.doorway SystemDoor.faults SystemDoor.broken SystemDoor.is_out SystemClock.last SystemClock.to_come Holding.calls lane)) lanes.old.items }
-    ensures ready { OnOk result (All (λ lane. IsReady «module».now desk.now (lane_state SystemDoor.doorway SystemDoor.faults SystemDoor.broken SystemDoor.is_out SystemClock.last SystemClock.to_come Holding.calls lane)) lanes.new.items) }
-{
-    let (door, port) = any_door(rt)?;
-    let gate = Holding { rt, progress };
-    add(rt, module, desk, lanes, number, pass, door, gate)?;
-    Ok(port)
-}
-
 // Runs the lanes beside their clients.
-fn run_beside<'a, R: Threads + Wait + Sync>(
+fn run_beside<R, D, C, G>(
     runtime: &R,
     rt: &HostRuntime,
     module: &Module,
     desk: &Desk,
-    lanes: &mut Vec<Lane<SystemDoor, SystemClock<'a>, Holding<'a>>>,
+    lanes: &mut Vec<Lane<D, C, G>>,
     ports: [u16; 3],
     progress: &Progress,
 ) -> Replies
-    requires ready { All (λ lane. IsReady «module».now desk.now (lane_state SystemDoor.doorway SystemDoor.faults SystemDoor.broken SystemDoor.is_out SystemClock.last SystemClock.to_come Holding.calls lane)) lanes.old.items }
+where
+    R: Threads + Wait + Sync,
+    D: Door + Send,
+    C: Clock + Send,
+    G: Gate + Send,
+    requires ready { All (λ lane. IsReady «module».now desk.now (lane_state D.doorway D.faults D.broken D.is_out C.last C.to_come G.calls lane)) lanes.old.items }
 {
     let (replies, _) = thread::join(
         runtime,
         || ask_all(runtime, rt, ports, progress),
         ||
-            requires { IsSync R.row × All (λ lane. IsReady «module».now desk.now (lane_state SystemDoor.doorway SystemDoor.faults SystemDoor.broken SystemDoor.is_out SystemClock.last SystemClock.to_come Holding.calls lane)) lanes.now.items }
-        { run_lanes(runtime, module, desk, lanes.as_mut_slice()) },
+            requires { IsSync R.row × All (λ lane. IsReady «module».now desk.now (lane_state D.doorway D.faults D.broken D.is_out C.last C.to_come G.calls lane)) lanes.now.items }
+        { run_all(runtime, module, desk, lanes) },
     );
     replies
 }
@@ -267,13 +258,28 @@ fn acquirers_day(rt: HostRuntime) -> Result<(), Fail> {
     let (desk, mut pass) = Desk::new(alloc, Ledger::new(alloc)?)?;
     let progress = Progress::new();
     let mut lanes = Vec::new(alloc);
-    let mut ports = [0; 3];
     let own = desk.split(&mut pass);
-    ports[0] = open_lane(&rt, &module, &desk, &mut lanes, 0, own, &progress)?;
+    let (door, port_0) = any_door(&rt)?;
+    let clock = SystemClock::new(&rt);
+    let gate = progress.gate(&rt);
+    add(
+        alloc, &module, &desk, &mut lanes, 0, own, door, clock, gate,
+    )?;
     let own = desk.split(&mut pass);
-    ports[1] = open_lane(&rt, &module, &desk, &mut lanes, 1, own, &progress)?;
+    let (door, port_1) = any_door(&rt)?;
+    let clock = SystemClock::new(&rt);
+    let gate = progress.gate(&rt);
+    add(
+        alloc, &module, &desk, &mut lanes, 1, own, door, clock, gate,
+    )?;
     let own = desk.split(&mut pass);
-    ports[2] = open_lane(&rt, &module, &desk, &mut lanes, 2, own, &progress)?;
+    let (door, port_2) = any_door(&rt)?;
+    let clock = SystemClock::new(&rt);
+    let gate = progress.gate(&rt);
+    add(
+        alloc, &module, &desk, &mut lanes, 2, own, door, clock, gate,
+    )?;
+    let ports = [port_0, port_1, port_2];
     let replies = run_beside(&rt, &rt, &module, &desk, &mut lanes, ports, &progress);
     assert!(rt; !progress.in_vain.load(Ordering::SeqCst));
     let Replies {

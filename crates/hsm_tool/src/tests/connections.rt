@@ -1,12 +1,13 @@
 // A connection of the system that is served, and one that breaks.
-ghost use Rattle.std.specs.Prelude.{◌≡◌, false, All, OnOk};
+ghost use Rattle.std.specs.Prelude.{◌≡◌, [], false, All, OnOk, Some};
+ghost use Rattle.hsm_io.specs.Connections.{Doorway};
 ghost use Rattle.hsm_server.specs.Lanes.{IsReady, lane_state};
 
 use super::*;
 use hsm_auth::Ledger;
 use hsm_config::Config;
 use hsm_desk::{Desk, Pass};
-use hsm_io::{Came, Door, Gate, Link, OpenGate};
+use hsm_io::{Came, Clock, Door, Gate, Link, OpenGate};
 use hsm_rows::Module;
 use hsm_server::{Lane, kind_for, run_lanes};
 use hsm_session::{ConnEnd, least_message};
@@ -41,28 +42,45 @@ pub(super) fn module_of(rt: &HostRuntime, lmks: &str) -> Result<Module, Fail> {
 }
 
 // Adds a lane that serves one connection.
-pub(super) fn add<'a, G: Gate + Send + Drop>(
-    rt: &'a HostRuntime,
+pub(super) fn add<D: Door + Send + Drop, C: Clock + Send + Drop, G: Gate + Send + Drop>(
+    alloc: Global,
     module: &Module,
     desk: &Desk,
-    lanes: &mut Vec<Lane<SystemDoor, SystemClock<'a>, G>>,
+    lanes: &mut Vec<Lane<D, C, G>>,
     number: u32,
     pass: Pass,
-    door: SystemDoor,
+    door: D,
+    clock: C,
     gate: G,
 ) -> Result<(), Fail>
     requires pass { pass.desk ≡ desk.now }
-    requires none_out { door.is_out ≡ false }
-    requires ready { All (λ lane. IsReady «module».now desk.now (lane_state SystemDoor.doorway SystemDoor.faults SystemDoor.broken SystemDoor.is_out SystemClock.last SystemClock.to_come G.calls lane)) lanes.old.items }
-    ensures ready { OnOk result (All (λ lane. IsReady «module».now desk.now (lane_state SystemDoor.doorway SystemDoor.faults SystemDoor.broken SystemDoor.is_out SystemClock.last SystemClock.to_come G.calls lane)) lanes.new.items) }
+    requires none_out { D.is_out door ≡ false }
+    requires none_taken { (d : Doorway) → D.doorway door ≡ Some d → d.taken ≡ [] }
+    requires ready { All (λ lane. IsReady «module».now desk.now (lane_state D.doorway D.faults D.broken D.is_out C.last C.to_come G.calls lane)) lanes.old.items }
+    ensures ready { OnOk result (All (λ lane. IsReady «module».now desk.now (lane_state D.doorway D.faults D.broken D.is_out C.last C.to_come G.calls lane)) lanes.new.items) }
 {
     let least = least_message(module, kind_for(number));
-    let clock = SystemClock::new(rt);
-    let Ok(lane) = Lane::new(rt.alloc(), number, least, 1, pass, door, clock, gate) else {
+    let Ok(lane) = Lane::new(alloc, number, least, 1, pass, door, clock, gate) else {
         return Err("no lane")?;
     };
     lanes.push(lane)?;
     Ok(())
+}
+
+// Runs the lanes.
+pub(super) fn run_all<R, D, C, G>(
+    rt: &R,
+    module: &Module,
+    desk: &Desk,
+    lanes: &mut Vec<Lane<D, C, G>>,
+) where
+    R: Threads + Wait + Sync,
+    D: Door + Send,
+    C: Clock + Send,
+    G: Gate + Send,
+    requires ready { All (λ lane. IsReady «module».now desk.now (lane_state D.doorway D.faults D.broken D.is_out C.last C.to_come G.calls lane)) lanes.old.items }
+{
+    run_lanes(rt, module, desk, lanes.as_mut_slice())
 }
 
 #[test]
@@ -75,8 +93,9 @@ fn connection_served(rt: HostRuntime) -> Result<(), Fail> {
     client.write_all(ASKED)?;
     client.shutdown(Shutdown::Write)?;
     let mut lanes = Vec::new(alloc);
-    add(&rt, &module, &desk, &mut lanes, 1, pass, door, OpenGate)?;
-    run_lanes(&rt, &module, &desk, lanes.as_mut_slice());
+    let clock = SystemClock::new(&rt);
+    add(alloc, &module, &desk, &mut lanes, 1, pass, door, clock, OpenGate)?;
+    run_all(&rt, &module, &desk, &mut lanes);
     let mut written = Vec::new(alloc);
     client.read_to_end(&mut written)?;
     assert_eq!(rt; written.as_slice(), ANSWERED);
