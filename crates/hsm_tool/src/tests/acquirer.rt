@@ -262,23 +262,17 @@ fn acquirers_day(rt: HostRuntime) -> Result<(), Fail> {
     let (door, port_0) = any_door(&rt)?;
     let clock = SystemClock::new(&rt);
     let gate = progress.gate(&rt);
-    add(
-        alloc, &module, &desk, &mut lanes, 0, own, door, clock, gate,
-    )?;
+    add(alloc, &module, &desk, &mut lanes, 0, own, door, clock, gate)?;
     let own = desk.split(&mut pass);
     let (door, port_1) = any_door(&rt)?;
     let clock = SystemClock::new(&rt);
     let gate = progress.gate(&rt);
-    add(
-        alloc, &module, &desk, &mut lanes, 1, own, door, clock, gate,
-    )?;
+    add(alloc, &module, &desk, &mut lanes, 1, own, door, clock, gate)?;
     let own = desk.split(&mut pass);
     let (door, port_2) = any_door(&rt)?;
     let clock = SystemClock::new(&rt);
     let gate = progress.gate(&rt);
-    add(
-        alloc, &module, &desk, &mut lanes, 2, own, door, clock, gate,
-    )?;
+    add(alloc, &module, &desk, &mut lanes, 2, own, door, clock, gate)?;
     let ports = [port_0, port_1, port_2];
     let replies = run_beside(&rt, &rt, &module, &desk, &mut lanes, ports, &progress);
     assert!(rt; !progress.in_vain.load(Ordering::SeqCst));

@@ -73,7 +73,8 @@ pub(super) fn run_all<R, D, C, G>(
     module: &Module,
     desk: &Desk,
     lanes: &mut Vec<Lane<D, C, G>>,
-) where
+)
+where
     R: Threads + Wait + Sync,
     D: Door + Send,
     C: Clock + Send,
@@ -94,7 +95,9 @@ fn connection_served(rt: HostRuntime) -> Result<(), Fail> {
     client.shutdown(Shutdown::Write)?;
     let mut lanes = Vec::new(alloc);
     let clock = SystemClock::new(&rt);
-    add(alloc, &module, &desk, &mut lanes, 1, pass, door, clock, OpenGate)?;
+    add(
+        alloc, &module, &desk, &mut lanes, 1, pass, door, clock, OpenGate,
+    )?;
     run_all(&rt, &module, &desk, &mut lanes);
     let mut written = Vec::new(alloc);
     client.read_to_end(&mut written)?;
