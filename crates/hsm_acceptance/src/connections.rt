@@ -114,6 +114,12 @@ fn connections(rt: HostRuntime) -> Result<(), Fail> {
             written: b"",
             ..whole
         },
+        // Answers to messages that came together are written together: there is no second write to fail.
+        Case {
+            chunk: 54,
+            bad_writes: &[1],
+            ..whole
+        },
         // The answers do not fit.
         Case {
             chunk: 54,

@@ -1,5 +1,5 @@
 // Lanes over doors in memory, beside one another over one desk, under set E1.
-ghost use Rattle.std.specs.Prelude.{◌≡◌, ◌≤◌, ◌^◌, [], false, All, IfOk, OnOk, Some, None};
+ghost use Rattle.std.specs.Prelude.{◌≡◌, ◌≤◌, ◌<◌, ◌^◌, [], false, All, IfOk, OnOk, Some, None};
 ghost use Rattle.hsm_io.specs.Connections.{Doorway};
 ghost use Rattle.hsm_io.specs.MemoryLinks.{IsUntouched};
 ghost use Rattle.hsm_server.specs.Lanes.{IsReady, lane_state};
@@ -29,37 +29,46 @@ const ASKED: &[u8] = b"\x00\x190001BU01085E813540F0AB405";
 // Its answer.
 const ANSWERED: &[u8] = b"\x00\x0E0001BV00D5D44F";
 
-// A connection that will give these bytes, and fails the listed reads.
-fn link_of(alloc: Global, input: &[u8], bad_reads: &[u32]) -> Result<MemLink, AllocError>
+// A connection that will give these bytes, at most a chunk at each read, and fails the listed reads.
+fn link_of(
+    alloc: Global,
+    input: &[u8],
+    chunk: usize,
+    bad_reads: &[u32],
+) -> Result<MemLink, AllocError>
+    requires { 0 < chunk }
     ensures { IfOk result IsUntouched }
 {
     MemLink::new(
         alloc,
         input.to_vec(alloc)?,
-        100,
+        chunk,
         100,
         bad_reads.to_vec(alloc)?,
         Vec::new(alloc),
     )
 }
 
-// A door that gives a connection for each of these inputs, and fails the listed calls. Each connection fails the listed reads.
-fn door_of(
+// A door that gives a connection for each of these inputs, and fails the listed calls. Each connection gives at most a chunk at each read, and fails the listed
+// reads.
+pub(crate) fn door_of(
     alloc: Global,
     inputs: &[&[u8]],
+    chunk: usize,
     bad_reads: &[u32],
     bad_nexts: &[u32],
 ) -> Result<MemDoor, AllocError>
+    requires { 0 < chunk }
     ensures { IfOk result (λ door. (door.is_out ≡ false) × (door.taken ≡ [])) }
 {
     let mut links = Vec::new(alloc);
     for input in inputs {
-        links.push(link_of(alloc, input, bad_reads)?)?;
+        links.push(link_of(alloc, input, chunk, bad_reads)?)?;
     }
     MemDoor::new(alloc, links, bad_nexts.to_vec(alloc)?)
 }
 
-fn clock_of(moments: &[u64; 2]) -> MemClock
+pub(crate) fn clock_of(moments: &[u64; 2]) -> MemClock
     requires { All (λ m. m ≤ 2 ^ 40) moments.now }
 {
     let mut list = ArrayVec::new();
@@ -69,7 +78,7 @@ fn clock_of(moments: &[u64; 2]) -> MemClock
 }
 
 // Adds a lane that accepts so many connections.
-fn add<D: Door + Send + Drop, C: Clock + Send + Drop, G: Gate + Send + Drop>(
+pub(crate) fn add<D: Door + Send + Drop, C: Clock + Send + Drop, G: Gate + Send + Drop>(
     alloc: Global,
     module: &Module,
     desk: &Desk,
@@ -97,7 +106,12 @@ fn add<D: Door + Send + Drop, C: Clock + Send + Drop, G: Gate + Send + Drop>(
 }
 
 // Runs the lanes.
-fn run_all<R, D, C, G>(rt: &R, module: &Module, desk: &Desk, lanes: &mut Vec<Lane<D, C, G>>)
+pub(crate) fn run_all<R, D, C, G>(
+    rt: &R,
+    module: &Module,
+    desk: &Desk,
+    lanes: &mut Vec<Lane<D, C, G>>,
+)
 where
     R: Threads + Wait + Sync,
     D: Door + Send,
@@ -110,7 +124,7 @@ where
 }
 
 // Takes the last of the lanes apart, and joins its pass into the given one.
-fn take_last<G: Gate + Send + Drop>(
+pub(crate) fn take_last<G: Gate + Send + Drop>(
     desk: &Desk,
     pass: &mut Pass,
     lanes: &mut Vec<Lane<MemDoor, MemClock, G>>,
@@ -136,7 +150,7 @@ fn runs_alone(
     let module = module_of(alloc, Set::E1, 1)?;
     let (desk, mut pass) = Desk::new(alloc, Ledger::new(alloc)?)?;
     let own = desk.split(&mut pass);
-    let door = door_of(alloc, &[ASKED, ASKED, ASKED], &[], bad_nexts)?;
+    let door = door_of(alloc, &[ASKED, ASKED, ASKED], 100, &[], bad_nexts)?;
     let mut lanes = Vec::new(alloc);
     let clock = clock_of(&[7, 8]);
     add(
@@ -195,7 +209,7 @@ fn run_with_gates<'a>(
     let (desk, mut one) = Desk::new(alloc, Ledger::new(alloc)?)?;
     let two = desk.split(&mut one);
     let mut lanes = Vec::new(alloc);
-    let door = door_of(alloc, &[ASKED], &[], &[])?;
+    let door = door_of(alloc, &[ASKED], 100, &[], &[])?;
     add(
         alloc,
         &module,
@@ -208,7 +222,7 @@ fn run_with_gates<'a>(
         clock_of(&[7, 8]),
         first,
     )?;
-    let door = door_of(alloc, &[ASKED], &[], &[])?;
+    let door = door_of(alloc, &[ASKED], 100, &[], &[])?;
     add(
         alloc,
         &module,
@@ -245,7 +259,7 @@ fn lanes_run_beside_each_other(rt: HostRuntime) -> Result<(), Fail> {
 }
 
 // How the first connections of a lane ended, how many of them there were, and what was written to each.
-fn told(end: &LaneEnd<MemDoor>, k: usize) -> Option<(ConnEnd, u64, &[u8])> {
+pub(crate) fn told(end: &LaneEnd<MemDoor>, k: usize) -> Option<(ConnEnd, u64, &[u8])> {
     let report = end.reports.get(k)?;
     let link = end.door.taken().get(k)?;
     Some((report.ended, report.messages, link.written()))
@@ -262,7 +276,7 @@ fn console_beside_host(
     let host = desk.split(&mut pass);
     let mut lanes = Vec::new(alloc);
     let texts = b"\x00\x17A pin.clear 1 abc hello\x00\x02VA".as_slice();
-    let door = door_of(alloc, &[texts], &[], &[])?;
+    let door = door_of(alloc, &[texts], 100, &[], &[])?;
     add(
         alloc,
         &module,
@@ -275,7 +289,7 @@ fn console_beside_host(
         clock_of(&[100, 160]),
         OpenGate,
     )?;
-    let door = door_of(alloc, &[ASKED, b""], &[1], &[])?;
+    let door = door_of(alloc, &[ASKED, b""], 100, &[1], &[])?;
     add(
         alloc,
         &module,

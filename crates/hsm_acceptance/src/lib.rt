@@ -10,6 +10,8 @@ mod consoles;
 #[cfg(test)]
 mod diagnostics;
 #[cfg(test)]
+mod holding;
+#[cfg(test)]
 mod keys;
 #[cfg(test)]
 mod laboratory;
@@ -19,5 +21,7 @@ mod lanes;
 mod macs;
 #[cfg(test)]
 mod pins;
+#[cfg(test)]
+mod rooms;
 #[cfg(test)]
 mod scripts;

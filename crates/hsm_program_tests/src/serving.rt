@@ -1,0 +1,328 @@
+// Lanes that are served: what is written to each connection, the line of each lane, and the status.
+use crate::benches::{ANSWERED, ASKED, Over, PLAIN, Port, Setup, runs, sound};
+use hsm_program::Outcome;
+use hsm_session::ConnEnd;
+use std::alloc::{Alloc, Global};
+use std::process::Abort;
+use std::sync::Wait;
+use std::test::Fail;
+use std::thread::Threads;
+
+// Two frames of ASKED, and the two answers.
+const TWICE: &[u8] = b"\x00\x190001BU01085E813540F0AB405\x00\x190001BU01085E813540F0AB405";
+
+const TWO: &[u8] = b"\x00\x0E0001BV00D5D44F\x00\x0E0001BV00D5D44F";
+
+// The officers allow PINs in the clear for a minute, which is over at the next text.
+const TEXTS: &[u8] = b"\x00\x17A pin.clear 1 abc hello\x00\x02VA";
+
+const QUIET_LINES: &[u8] =
+    b"lane 0: 0 connections, 0 messages\nlane 1: 0 connections, 0 messages\nlane 2: 0 connections, 0 messages\n";
+
+// How a connection ended, how many of its messages were booked, and what was written to it.
+fn told(over: &Over, lane: usize, connection: usize) -> Option<(ConnEnd, u64, &[u8])> {
+    let end = over.ended.lanes.get(lane)?;
+    let report = end.reports.get(connection)?;
+    let link = end.door.taken().get(connection)?;
+    Some((report.ended, report.messages, link.written()))
+}
+
+fn serves(
+    rt: &(impl Abort + Alloc<A = Global> + Threads + Wait + Sync),
+    ports: &[Port<'_>],
+    status: u8,
+    output: &[u8],
+) -> Result<Over, Fail> {
+    let setup = Setup { ports, ..PLAIN };
+    let over = runs(rt, &["serve", "c"], &setup, &[])?;
+    assert_eq!(rt;
+        (over.ended.status, over.ended.outcome),
+        (status, Outcome::Served)
+    );
+    assert_eq!(rt; over.out.bytes(), output);
+    assert_eq!(rt; over.ended.lanes.len(), 3);
+    assert!(rt; over.ended.pass.is_some());
+    Ok(over)
+}
+
+// The texts of the console have the moments 100 and 160, where no lane books a second message.
+#[test]
+fn console_beside_hosts(rt: HostRuntime) -> Result<(), Fail> {
+    let ports = [
+        sound(1500, &[TEXTS, b"\x00\x01Q"]),
+        sound(1501, &[ASKED]),
+        sound(1502, &[]),
+    ];
+    let lines =
+        b"lane 0: 2 connections, 3 messages\nlane 1: 1 connections, 1 messages\nlane 2: 0 connections, 0 messages\n";
+    let over = serves(&rt, &ports, 0, lines)?;
+    let clean = ConnEnd::Clean;
+    assert_eq!(rt;
+        told(&over, 0, 0),
+        Some((clean, 2, b"\x00\x02OK\x00\x04OK 0".as_slice()))
+    );
+    assert_eq!(rt; told(&over, 1, 0), Some((clean, 1, ANSWERED)));
+    assert_eq!(rt; told(&over, 1, 1), None);
+    assert_eq!(rt; told(&over, 2, 0), None);
+    Ok(())
+}
+
+// Neither the order of the doors in the bench matters, nor what other ports it has.
+#[test]
+fn hosts_of_several_connections(rt: HostRuntime) -> Result<(), Fail> {
+    let ports = [
+        sound(1502, &[TWICE, b"", ASKED]),
+        sound(1503, &[ASKED]),
+        sound(1501, &[ASKED]),
+        sound(1500, &[]),
+    ];
+    let lines =
+        b"lane 0: 0 connections, 0 messages\nlane 1: 1 connections, 1 messages\nlane 2: 3 connections, 3 messages\n";
+    let over = serves(&rt, &ports, 0, lines)?;
+    let clean = ConnEnd::Clean;
+    assert_eq!(rt; told(&over, 1, 0), Some((clean, 1, ANSWERED)));
+    assert_eq!(rt; told(&over, 2, 0), Some((clean, 2, TWO)));
+    assert_eq!(rt; told(&over, 2, 1), Some((clean, 0, b"".as_slice())));
+    assert_eq!(rt; told(&over, 2, 2), Some((clean, 1, ANSWERED)));
+    assert!(rt; !over.ended.lanes.iter().any(|end| end.door_fault));
+    Ok(())
+}
+
+// One host, and one connection a lane, under the LMKs of the test laboratory.
+const ONCE: &[u8] = br#"
+version = 1
+header = 4
+officers = ["ba7816bf8f01cfea414140de5dae2223b00361a396177a9cb410ff61f20015ad",
+            "2cf24dba5fb0a30e26e83b2ac5b9e29e1b161e5c1fa7425e73043362938b9824"]
+console_port = 2
+host_ports = [1]
+accept = 1
+lmk = "test"
+"#;
+
+#[test]
+fn as_many_as_accepted(rt: HostRuntime) -> Result<(), Fail> {
+    let echoed = [b"\x00\x0C0001B20002AB".as_slice(), b""];
+    let texts = [b"\x00\x02VA".as_slice()];
+    // A door is not asked for a connection behind the last that is accepted.
+    let console = Port {
+        bad_nexts: &[1],
+        ..sound(2, &texts)
+    };
+    let ports = [sound(1, &echoed), console];
+    let setup = Setup {
+        config: ONCE,
+        ports: &ports,
+        ..PLAIN
+    };
+    let over = runs(&rt, &["serve", "c"], &setup, &[])?;
+    assert_eq!(rt;
+        (over.ended.status, over.ended.outcome),
+        (0, Outcome::Served)
+    );
+    let lines =
+        b"lane 0: 1 connections, 1 messages\nlane 1: 1 connections, 1 messages\n".as_slice();
+    assert_eq!(rt; over.out.bytes(), lines);
+    let clean = ConnEnd::Clean;
+    assert_eq!(rt;
+        told(&over, 0, 0),
+        Some((clean, 1, b"\x00\x04OK 0".as_slice()))
+    );
+    assert_eq!(rt;
+        told(&over, 1, 0),
+        Some((clean, 1, b"\x00\x0A0001B300AB".as_slice()))
+    );
+    assert_eq!(rt; told(&over, 1, 1), None);
+    Ok(())
+}
+
+// What lane 1 is given, its calls that fail, and the calls of `next` that fail at lane 2. Then the status, the lines, how the first connection of lane 1 ended, where
+// there is one, and whether the door of lane 1 failed.
+#[derive(Clone, Copy)]
+struct Case {
+    inputs: &'static [&'static [u8]],
+    bad_nexts: &'static [u32],
+    bad_reads: &'static [u32],
+    bad_writes: &'static [u32],
+    others: &'static [u32],
+    status: u8,
+    lines: &'static [u8],
+    told: Option<(ConnEnd, u64, &'static [u8])>,
+    door_fault: bool,
+}
+
+const NONE: &[u8] =
+    b"lane 0: 0 connections, 0 messages\nlane 1: 1 connections, 0 messages\nlane 2: 0 connections, 0 messages\n";
+
+const ONE: &[u8] =
+    b"lane 0: 0 connections, 0 messages\nlane 1: 1 connections, 1 messages\nlane 2: 0 connections, 0 messages\n";
+
+const BOTH: &[u8] =
+    b"lane 0: 0 connections, 0 messages\nlane 1: 1 connections, 2 messages\nlane 2: 0 connections, 0 messages\n";
+
+fn serves_case(
+    rt: &(impl Abort + Alloc<A = Global> + Threads + Wait + Sync),
+    case: &Case,
+) -> Result<(), Fail> {
+    let first = Port {
+        port: 1501,
+        inputs: case.inputs,
+        bad_nexts: case.bad_nexts,
+        bad_reads: case.bad_reads,
+        bad_writes: case.bad_writes,
+    };
+    let second = Port {
+        bad_nexts: case.others,
+        ..sound(1502, &[])
+    };
+    let over = serves(
+        rt,
+        &[sound(1500, &[]), first, second],
+        case.status,
+        case.lines,
+    )?;
+    assert_eq!(rt; told(&over, 1, 0), case.told);
+    let end = over.ended.lanes.get(1).ok_or("lane")?;
+    assert_eq!(rt; end.door_fault, case.door_fault);
+    Ok(())
+}
+
+#[test]
+fn faults_and_early_ends(rt: HostRuntime) -> Result<(), Fail> {
+    let whole = Case {
+        inputs: &[TWICE],
+        bad_nexts: &[],
+        bad_reads: &[],
+        bad_writes: &[],
+        others: &[],
+        status: 0,
+        lines: BOTH,
+        told: Some((ConnEnd::Clean, 2, TWO)),
+        door_fault: false,
+    };
+    let cases = [
+        whole,
+        // The input ends within the frame.
+        Case {
+            inputs: &[b"\x00\x190001BU01085E813540F0AB40"],
+            status: 6,
+            lines: NONE,
+            told: Some((ConnEnd::Cut, 0, b"")),
+            ..whole
+        },
+        // A length below the least ends the connection behind the answer.
+        Case {
+            inputs: &[b"\x00\x190001BU01085E813540F0AB405\x00\x050001B"],
+            status: 6,
+            lines: ONE,
+            told: Some((ConnEnd::Short(5), 1, ANSWERED)),
+            ..whole
+        },
+        // The first read fails.
+        Case {
+            bad_reads: &[0],
+            status: 7,
+            lines: NONE,
+            told: Some((ConnEnd::ReadFault, 0, b"")),
+            ..whole
+        },
+        // The second read fails: what came before is answered.
+        Case {
+            bad_reads: &[1],
+            status: 7,
+            told: Some((ConnEnd::ReadFault, 2, TWO)),
+            ..whole
+        },
+        // The first write fails: both messages were booked.
+        Case {
+            bad_writes: &[0],
+            status: 7,
+            told: Some((ConnEnd::WriteFault, 2, b"")),
+            ..whole
+        },
+        // The door fails at once.
+        Case {
+            bad_nexts: &[0],
+            status: 7,
+            lines: QUIET_LINES,
+            told: None,
+            door_fault: true,
+            ..whole
+        },
+        // The door fails behind the first of three connections, and is not asked again.
+        Case {
+            inputs: &[TWICE, ASKED, ASKED],
+            bad_nexts: &[1],
+            status: 7,
+            door_fault: true,
+            ..whole
+        },
+        // The door is not asked again behind its end.
+        Case {
+            bad_nexts: &[2],
+            ..whole
+        },
+        // A failed call tells more than an input that ends early, in whichever lane it stands.
+        Case {
+            inputs: &[b"\x00"],
+            others: &[0],
+            status: 7,
+            lines: NONE,
+            told: Some((ConnEnd::Cut, 0, b"")),
+            ..whole
+        },
+    ];
+    for case in &cases {
+        serves_case(&rt, case)?;
+    }
+    Ok(())
+}
+
+// The console's connections are looked at like those of the hosts.
+#[test]
+fn console_cut(rt: HostRuntime) -> Result<(), Fail> {
+    let ports = [
+        sound(1500, &[b"\x00\x02V"]),
+        sound(1501, &[]),
+        sound(1502, &[]),
+    ];
+    let lines =
+        b"lane 0: 1 connections, 0 messages\nlane 1: 0 connections, 0 messages\nlane 2: 0 connections, 0 messages\n";
+    let over = serves(&rt, &ports, 6, lines)?;
+    assert_eq!(rt; told(&over, 0, 0), Some((ConnEnd::Cut, 0, b"".as_slice())));
+    Ok(())
+}
+
+// Serving that cannot write its lines keeps its lanes and the pass.
+#[test]
+fn lines_not_written(rt: HostRuntime) -> Result<(), Fail> {
+    let cases: [(u32, &[u8]); 3] = [
+        (0, b""),
+        (1, b"lane 0: 0 connections, 0 messages\n"),
+        (
+            2,
+            b"lane 0: 0 connections, 0 messages\nlane 1: 1 connections, 2 messages\n",
+        ),
+    ];
+    let failing = Port {
+        bad_nexts: &[0],
+        ..sound(1502, &[])
+    };
+    let ports = [sound(1500, &[]), sound(1501, &[TWICE]), failing];
+    let setup = Setup {
+        ports: &ports,
+        ..PLAIN
+    };
+    for (write, output) in cases {
+        let over = runs(&rt, &["serve", "c"], &setup, &[write])?;
+        assert_eq!(rt;
+            (over.ended.status, over.ended.outcome),
+            (3, Outcome::OutFault)
+        );
+        assert_eq!(rt; over.out.bytes(), output);
+        assert_eq!(rt; over.ended.lanes.len(), 3);
+        assert!(rt; over.ended.pass.is_some());
+        assert_eq!(rt; told(&over, 1, 0), Some((ConnEnd::Clean, 2, TWO)));
+    }
+    Ok(())
+}
