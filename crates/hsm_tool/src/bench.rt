@@ -65,8 +65,11 @@ fn read_seed(rt: &HostRuntime) -> Option<[u8; 32]> {
 
 impl<'a> Bench for SystemBench<'a> {
     type File = SystemFile;
+
     type Door = SystemDoor;
+
     type Clock = SystemClock<'a>;
+
     type Gate = OpenGate;
 
     ghost files = { λ bench. record {
