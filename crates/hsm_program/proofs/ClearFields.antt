@@ -1,5 +1,5 @@
 -- What is shown in the clear over all lanes, and by whom it was granted.
-use Rattle.std.proofs.Common.{◌≡◌, ◌⊎◌, ℕ, zero, suc, ◌+◌, ◌-◌, ◌<◌, ◌≤◌, ◌==◌, Bool, true, false, List, [], ◌∷◌, ◌++◌, length, flat_map, All, slice_get, Some, refl, sym, ap, subst, ◌∙◌, inl, inr, arith, rules}
+use Rattle.std.proofs.Common.{◌≡◌, ◌⊎◌, ℕ, zero, suc, ◌==◌, true, false, List, [], ◌∷◌, ◌++◌, flat_map, All, slice_get, Some, refl, sym, ap, subst, ◌∙◌, inl, inr, rules}
 use Rattle.std.specs.List.{AllZip}
 use Rattle.hsm_auth.specs.declared.activity.Activity.{Activity}
 use Rattle.hsm_auth.specs.declared.entry.Ask.{Ask}
@@ -15,7 +15,7 @@ use Rattle.hsm_session.specs.Connections.{AuthoriseNothing, IsEntryFor, is_autho
 use Rattle.hsm_session.specs.Plans.{side_of}
 use Rattle.hsm_server.specs.Lanes.{IsServed, Served, all_entries, kind_of}
 use Rattle.hsm_program.proofs.Lists.{index_at, within}
-use Rattle.hsm_program.specs.Headline.{IsAnsweredAt, IsByOfficers, IsGrantedBy, ShowsGranted}
+use Rattle.hsm_program.specs.Headline.{IsAnsweredAt, IsByOfficers, ShowsGranted}
 
 -- where an item of joined lists stands
 pub record Within {A B : Type 0} (f : A → List B) (xs : List A) (y : B) : Type 0 where

@@ -1,10 +1,9 @@
 -- The lanes that were opened, served and joined.
-use Rattle.std.proofs.Common.{◌≡◌, ℕ, zero, suc, ◌+◌, ◌<◌, ◌≤◌, ◌^◌, List, [], ◌∷◌, length, map, flat_map, All, sum_by, slice_get, slice_index_or, Option, Some, None, IfSome, IsSome, refl, sym, ap, subst, ◌∙◌, arith}
+use Rattle.std.proofs.Common.{◌≡◌, ℕ, zero, suc, ◌≤◌, ◌^◌, List, [], ◌∷◌, length, map, flat_map, slice_get, slice_index_or, Option, Some, None, IfSome, IsSome, refl, sym, ap, subst, ◌∙◌, arith}
 use Rattle.std.specs.List.{AllZip}
 use Rattle.std.proofs.lemmas.List.{length-map}
 use Rattle.atomic_table.specs.Seated.{TableId}
-use Rattle.hsm_auth.specs.declared.entry.Entry.{Entry}
-use Rattle.hsm_auth.specs.Own.{MadeBelow, own}
+use Rattle.hsm_auth.specs.Own.{MadeBelow}
 use Rattle.hsm_config.specs.declared.configuration.Config.{Config}
 use Rattle.hsm_config.specs.Configs.{module_of, ports_of}
 use Rattle.hsm_desk.specs.Passes.{PassView, IsWhole, OnlyKin, number}
@@ -12,9 +11,9 @@ use Rattle.hsm_io.specs.Sides.{DoorSide, SeedSide}
 use Rattle.hsm_rows.specs.declared.settings.Module.{Module}
 use Rattle.hsm_server.specs.Lanes.{EachLane, IsReady, LaneState, LaneView, Ran, kind_of, message_count}
 use Rattle.hsm_session.specs.Plans.{least_for}
-use Rattle.hsm_program.specs.Headline.{Headline, Setting, module_in}
+use Rattle.hsm_program.specs.Headline.{Setting, module_in}
 use Rattle.hsm_program.specs.Lanes.{AreJoined, AreLanes, IsNewLane, IsSpan, seat, step_of}
-use Rattle.hsm_program.specs.Serving.{HasCauses, ServedBy}
+use Rattle.hsm_program.specs.Serving.{ServedBy}
 use Rattle.hsm_program.proofs.ClearFields.{ClearWhereGranted, OwnEvery, OwnThere, WordsAuthorise}
 use Rattle.hsm_program.proofs.Lists.{index_at, item_at, map_at, map_from, within, zip_of_each, each_of_zip}
 use Rattle.hsm_program.proofs.Seats.{pair_of_row, whole}

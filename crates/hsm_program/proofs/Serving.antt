@@ -1,5 +1,5 @@
 -- What the runs of all lanes come to.
-use Rattle.std.proofs.Common.{◌≡◌, ℕ, zero, suc, ◌+◌, ◌<◌, ◌≤◌, ◌⊎◌, false, Bool, IsFalse, List, [], ◌∷◌, ◌++◌, length, map, All, sum_by, slice_get, Option, Some, refl, sym, ap, subst, ◌∙◌, arith, rules}
+use Rattle.std.proofs.Common.{◌≡◌, ℕ, zero, suc, ◌+◌, ◌≤◌, ◌⊎◌, false, Bool, IsFalse, List, [], ◌∷◌, ◌++◌, length, map, All, sum_by, slice_get, Some, refl, sym, ap, subst, ◌∙◌, arith, rules}
 use Rattle.std.specs.List.{AllZip}
 use Rattle.std.proofs.lemmas.List.{length-map}
 use Rattle.std.proofs.lemmas.List.Recursion.{is_sum_by}
@@ -13,7 +13,7 @@ use Rattle.hsm_rows.specs.declared.settings.Module.{Module}
 use Rattle.hsm_session.specs.declared.serving.Report.{Report}
 use Rattle.hsm_session.specs.Connections.{AuthoriseNothing, HaveMoments}
 use Rattle.hsm_server.specs.Lanes.{IsServed, IsToldBy, LaneState, LaneView, Ran, Served, Tells, all_entries, all_reports, bytes_of, fault_count, kind_of, message_count, risen}
-use Rattle.hsm_program.specs.Headline.{HasNoOther, Headline, IsHeard, IsWritten, LaneHears, LaneRuns, OfEach, ServesInOrder, Setting, WhereTold, module_in}
+use Rattle.hsm_program.specs.Headline.{Headline, IsHeard, IsWritten, LaneHears, LaneRuns, OfEach, ServesInOrder, Setting, WhereTold, module_in}
 use Rattle.hsm_program.specs.Lanes.{IsNewLane}
 use Rattle.hsm_program.specs.Serving.{HasCauses, IsNamed}
 use Rattle.hsm_config.specs.Configs.{ports_of}

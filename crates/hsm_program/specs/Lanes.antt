@@ -1,5 +1,5 @@
 -- The lanes before they are served, and the passes that they book with; no public contract cites these.
-use Rattle.std.specs.Prelude.{◌≡◌, ◌<◌, ◌≤◌, ◌+◌, ◌*◌, ◌^◌, ◌||◌, ◌⊎◌, nat_lt, nat_le, ◌==◌, if◌then◌else◌, ℕ, Bool, false, List, [], ◌∷◌, ◌++◌, length, map, flat_map, slice_get, take, Option, Some, None}
+use Rattle.std.specs.Prelude.{◌≡◌, ◌≤◌, ◌+◌, ◌*◌, ◌^◌, ◌||◌, ◌⊎◌, nat_lt, nat_le, ◌==◌, if◌then◌else◌, ℕ, false, List, [], ◌∷◌, ◌++◌, length, flat_map, slice_get, take, Option, Some, None}
 use Rattle.atomic_table.specs.Seated.{TableId}
 use Rattle.hsm_auth.specs.Own.{own}
 use Rattle.hsm_desk.specs.Passes.{PassView, Sound, KeepsOwn, kept_pass}

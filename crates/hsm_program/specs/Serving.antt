@@ -1,5 +1,5 @@
 -- What `serve` comes to.
-use Rattle.std.specs.Prelude.{◌≡◌, ◌⊎◌, ◌+◌, ℕ, Bool, true, false, ◌||◌, not, ◌==◌, if◌then◌else◌, List, [], ◌∷◌, ◌++◌, length, map, take, slice_get, Option, Some, None, codes, decimal}
+use Rattle.std.specs.Prelude.{◌≡◌, ◌+◌, ℕ, Bool, true, false, ◌||◌, not, ◌==◌, if◌then◌else◌, List, [], ◌∷◌, ◌++◌, length, map, take, slice_get, Option, Some, None, codes, decimal}
 use Rattle.std.specs.List.{AllZip, list_any}
 use Rattle.hsm_desk.specs.Passes.{PassView}
 use Rattle.hsm_io.specs.Connections.{Doorway, Taken}

@@ -1,4 +1,4 @@
-use Rattle.std.proofs.Common.{◌≡◌, ◌≤◌, length, map, IfSome}
+use Rattle.std.proofs.Common.{◌≡◌, ◌≤◌, map, IfSome}
 use Rattle.std.specs.Vec.{vec_capacity}
 use Rattle.hsm_program.specs.Lanes.{end_of}
 use Rattle.hsm_program.proofs.Joining.{JoinedTo}

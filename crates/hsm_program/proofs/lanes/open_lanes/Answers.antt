@@ -1,4 +1,4 @@
-use Rattle.std.proofs.Common.{rules, IfErr, Option, Result, ◌≡◌, ◌<◌, ◌≤◌, ◌-◌, ◌+◌, ◌++◌, ◌∷◌, [], List, ℕ, Some, ap, arith, length, map, slice_get, slice_index_or, slice_set, subst, sym, ◌∙◌}
+use Rattle.std.proofs.Common.{rules, IfErr, Option, Result, ◌≡◌, ◌<◌, ◌-◌, ◌+◌, ◌++◌, ◌∷◌, [], List, ℕ, Some, ap, arith, length, map, slice_get, slice_index_or, slice_set, subst, sym, ◌∙◌}
 use Rattle.std.proofs.lemmas.List.{length-map, map-append}
 use Rattle.std.proofs.lemmas.Result.{err_from_is_err_and}
 use Rattle.hsm_config.specs.Configs.{ports_of}

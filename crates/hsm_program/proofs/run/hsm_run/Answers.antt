@@ -1,6 +1,6 @@
 use Rattle.std.proofs.Common.{rules, ◌≡◌, ap}
 use Rattle.hsm_program.specs.Serving.{lane_views}
-use Rattle.hsm_program.specs.Words.{IsLocal, asked, names}
+use Rattle.hsm_program.specs.Words.{IsLocal, names}
 use Rattle.hsm_program.proofs.LocalLaws.{asks_local, local_status, no_lanes, no_seed_fault, no_usage, not_of_serve, other_than_serve}
 use Rattle.hsm_program.proofs.run.hsm_run.Goals as goal
 

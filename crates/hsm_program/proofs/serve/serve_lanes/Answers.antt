@@ -1,4 +1,4 @@
-use Rattle.std.proofs.Common.{◌≡◌, ◌<◌, ◌≤◌, ◌^◌, IfSome, IsSome, List, ℕ, Option, Some, ap, arith, length, map, slice_get, slice_index_or, subst, sym, ◌∙◌}
+use Rattle.std.proofs.Common.{◌≡◌, ◌<◌, IfSome, List, ℕ, Some, ap, arith, length, map, slice_get, slice_index_or, subst, sym, ◌∙◌}
 use Rattle.std.specs.List.{AllZip}
 use Rattle.std.proofs.lemmas.List.{length-map}
 use Rattle.hsm_config.specs.Configs.{module_of, ports_of}
