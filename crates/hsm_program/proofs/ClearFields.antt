@@ -134,8 +134,7 @@ by_officers every words m history connections place entry activity minutes known
     (ap (λ (entries : List (ℕ × Entry)). slice_get entries mine.0) (sym of_lane.entries) ∙ mine.1) in
     let served : IsServed m (kind_of entry.pass) w.from = all_at (IsServed m (kind_of entry.pass)) lane.0 w.at w.from of_lane.each w.there in
     let message = zip_other (IsEntryFor m (side_of (kind_of entry.pass))) w.from.messages w.from.entries w.index (place, entry) served.each w.here in
-    let of_console : message_ask m console message.0 ≡ entry.ask = sym (message.2 ∙ ap (λ (n : ℕ). message_ask m (side_of (kind_of n)) message.0) zero_is) in
-    (
+    let of_console : message_ask m console message.0 ≡ entry.ask = sym (message.2 ∙ ap (λ (n : ℕ). message_ask m (side_of (kind_of n)) message.0) zero_is) in (
       zero_is,
       record {
         message = message.0;

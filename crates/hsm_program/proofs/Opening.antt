@@ -316,7 +316,7 @@ source m accept moments ports desk before now last span number lanes from opened
     let next : IsNextSpan span number = subst (λ (n : ℕ). IsNextSpan n number) (sym is) (span_next last number opened.is_span) in
     let least = next.is_span.least in
     let again : OpenTo m accept moments ports desk before now span number lanes =
-        subst (λ (n : ℕ). OpenTo m accept moments ports desk before now n number lanes) (sym is) (respan m accept moments ports desk before now last number lanes opened) in
+    subst (λ (n : ℕ). OpenTo m accept moments ports desk before now n number lanes) (sym is) (respan m accept moments ports desk before now last number lanes opened) in
     let port = item_at ports (number - span) (omega (arith, less, least)) in
     let seated : from.pass ≡ seat desk span number (number - span) = (again.each (number - span) port.0 from port.1 at_from).seated in
     let most = step_most span number (number - span) in
@@ -348,9 +348,10 @@ pub refused_next : (m : Module) (accept : ℕ) (moments : Option (List ℕ)) (po
     → IsRefused number port now after fault → AreRefused ports before after fault
 refused_next m accept moments ports desk before now after span number port lanes Memory opened at_port asks refused = tt
 refused_next m accept moments ports desk before now after span number port lanes (Door lane) opened at_port asks refused =
-    let asked : after.asked ≡ take (number + 1) ports = asks ∙ ap (λ (front : List ℕ). front ++ port ∷ []) opened.asked ∙ sym (take_push number port ports at_port) in
-    (port,
-    subst (λ (n : ℕ). slice_get ports n ≡ Some port) (sym refused.0) at_port,
-    subst (λ (n : ℕ). after.asked ≡ take (n + 1) ports) (sym refused.0) asked,
-    refused.1,
-    subst (λ (n : ℕ). Rose n after.faults) opened.faults refused.2)
+    let asked : after.asked ≡ take (number + 1) ports = asks ∙ ap (λ (front : List ℕ). front ++ port ∷ []) opened.asked ∙ sym (take_push number port ports at_port) in (
+      port,
+      subst (λ (n : ℕ). slice_get ports n ≡ Some port) (sym refused.0) at_port,
+      subst (λ (n : ℕ). after.asked ≡ take (n + 1) ports) (sym refused.0) asked,
+      refused.1,
+      subst (λ (n : ℕ). Rose n after.faults) opened.faults refused.2,
+    )

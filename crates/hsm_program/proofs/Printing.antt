@@ -49,8 +49,7 @@ pub lines_at : {A : Type 0} (view : A → LaneView) (ends : List A) (n : ℕ) (e
 lines_at view ends n end less is =
     let front = map view (take n ends) in
     let back = map view (drop (suc n) ends) in
-    let many : length front ≡ n = length-map (take n ends) view ∙ take_length ends n less in
-    (
+    let many : length front ≡ n = length-map (take n ends) view ∙ take_length ends n less in (
       lane_lines (n + 1) back,
       ap (λ (l : List _). lane_lines 0 (map view l)) (split_at ends n end less is)
           ∙ ap (λ (l : List LaneView). lane_lines 0 l) (map-append view (take n ends) (end ∷ drop (suc n) ends))

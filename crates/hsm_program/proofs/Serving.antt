@@ -67,8 +67,7 @@ told_of : (setting : Setting) (history : List Entry) (k port : ℕ) (pass : Pass
 told_of setting history k port pass before after one came is =
     let m = module_in setting in
     let told = one.ran.served.told (record { to_come = came; taken = [] }) (one.new.doorway came is) in
-    let tells : Tells m (kind_of before.number) (record { to_come = came; taken = [] }) told.0 one.ran.connections = told.2 in
-    (
+    let tells : Tells m (kind_of before.number) (record { to_come = came; taken = [] }) told.0 one.ran.connections = told.2 in (
       told.0,
       told.1,
       record {
@@ -126,9 +125,12 @@ lane_causes setting history k port pass before after one =
           ∙ ap (λ (rs : List Report). risen 0 (fault_count rs)) (sym reports);
       door = subst (λ (n : ℕ). HasCause n after.faults after.door_fault) one.new.faults one.ran.fault;
       named = λ came is.
-          let t = told_of setting history k port pass before after one came is in
-          (t.0, t.1, subst (λ (rs : List Report). AllZip IsNamed rs t.0.taken) (sym reports)
-              (zip_of_map (λ (served : Served). served.report) (IsToldBy m (kind_of k)) IsNamed one.ran.connections t.0.taken (λ served taken told. told.failed) t.2.each));
+          let t = told_of setting history k port pass before after one came is in (
+            t.0,
+            t.1,
+            subst (λ (rs : List Report). AllZip IsNamed rs t.0.taken) (sym reports)
+                (zip_of_map (λ (served : Served). served.report) (IsToldBy m (kind_of k)) IsNamed one.ran.connections t.0.taken (λ served taken told. told.failed) t.2.each),
+          );
     }
 
 -- ---- all lanes together

@@ -137,7 +137,11 @@ fn messages_of(reports: &[Report]) -> u64
 
 // Writes the line of a lane.
 #[tactic(auto, unfolding(crate::specs::Serving::lane_line))]
-fn print_lane<D: Door, S: Sink>(number: usize, end: &LaneEnd<D>, out: &mut S) -> Result<(), OutFailed>
+fn print_lane<D: Door, S: Sink>(
+    number: usize,
+    end: &LaneEnd<D>,
+    out: &mut S,
+) -> Result<(), OutFailed>
     requires { message_count end.now.reports.items < 2 ^ 64 }
     ensures ok { OnOk result (Appends (S.stands_for out.old) (S.stands_for out.new) (lane_line number (lane_view D.doorway D.faults D.broken end.now))) }
     ensures err { OnErr result (AppendsFront (S.stands_for out.old) (S.stands_for out.new) (lane_line number (lane_view D.doorway D.faults D.broken end.now))) }
@@ -157,7 +161,10 @@ fn print_lane<D: Door, S: Sink>(number: usize, end: &LaneEnd<D>, out: &mut S) ->
 }
 
 /// Writes a line for each lane.
-pub(crate) fn print_lanes<D: Door, S: Sink>(ends: &[LaneEnd<D>], out: &mut S) -> Result<(), OutFailed>
+pub(crate) fn print_lanes<D: Door, S: Sink>(
+    ends: &[LaneEnd<D>],
+    out: &mut S,
+) -> Result<(), OutFailed>
     requires { All (λ end. message_count end.reports.items < 2 ^ 64) ends.now }
     ensures ok { OnOk result (Appends (S.stands_for out.old) (S.stands_for out.new) (lane_lines 0 (lane_views D.doorway D.faults D.broken ends.now))) }
     ensures err { OnErr result (AppendsFront (S.stands_for out.old) (S.stands_for out.new) (lane_lines 0 (lane_views D.doorway D.faults D.broken ends.now))) }

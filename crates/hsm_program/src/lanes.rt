@@ -123,7 +123,15 @@ pub(crate) fn open_lanes<B: Bench>(
     'lanes: for number in 1..ports.len() {
         span = next_span(span, number);
         let pass = split_lane(desk, &mut lanes[number - span]);
-        let lane = open_lane(alloc, module, config.accept, number, ports[number], pass, bench)?;
+        let lane = open_lane(
+            alloc,
+            module,
+            config.accept,
+            number,
+            ports[number],
+            pass,
+            bench,
+        )?;
         match lanes.push(lane) {
             Ok(()) => {}
             Err(_) => return Err(LanesFault::Memory),

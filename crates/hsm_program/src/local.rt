@@ -71,7 +71,11 @@ fn read_file<B: Bench>(alloc: Global, name: &str, bench: &mut B) -> Result<Vec<u
 }
 
 // Reads the configuration of a file, or says how the command ends.
-pub(crate) fn read_config<B: Bench>(alloc: Global, name: &str, bench: &mut B) -> Result<Config, (u8, Outcome)>
+pub(crate) fn read_config<B: Bench>(
+    alloc: Global,
+    name: &str,
+    bench: &mut B,
+) -> Result<Config, (u8, Outcome)>
     requires { (B.files bench.old).is_out ≡ false }
     ensures told { (bytes : List ℕ) → (B.files bench.old).bytes_of name.now ≡ Some bytes → ReadsConfig bytes result }
     ensures refused { IfErr result (λ ended. IsRefusal ended.0 ended.1) }
@@ -207,7 +211,12 @@ fn print_hosts<S: Sink>(config: &Config, out: &mut S) -> (u8, Outcome)
 }
 
 // Checks the configuration of a file.
-fn check_config<B: Bench, S: Sink>(alloc: Global, name: &str, bench: &mut B, out: &mut S) -> (u8, Outcome)
+fn check_config<B: Bench, S: Sink>(
+    alloc: Global,
+    name: &str,
+    bench: &mut B,
+    out: &mut S,
+) -> (u8, Outcome)
     requires { (B.files bench.old).is_out ≡ false }
     ensures words { (place : ℕ) → result.1 ≡ Outcome.Usage place → ⊥ }
     ensures config { (bytes : List ℕ) → (B.files bench.old).bytes_of name.now ≡ Some bytes →

@@ -112,9 +112,7 @@ where
     ensures others { OtherThanServe (asked (names words.now)) ((B.seeds bench.new ≡ B.seeds bench.old) × (B.doors bench.new ≡ B.doors bench.old)) }
 {
     match read_words(words) {
-        Err(WordsFault::Usage(place)) => {
-            without_lanes(alloc, 2, Outcome::Usage(place as u64))
-        }
+        Err(WordsFault::Usage(place)) => { without_lanes(alloc, 2, Outcome::Usage(place as u64)) }
         Ok(Command::Serve { config }) => serve(rt, alloc, word_at(words, config), bench, out),
         Ok(command) => {
             let (status, outcome) = hsm_local(alloc, words, &command, bench, out);

@@ -17,7 +17,7 @@ lanes-init g c =
     let ports_are : c.deref.result.now ≡ ports_of c.args.config.now = search rules in
     let some : 0 < length c.deref.result.now = subst (λ (ports : List ℕ). 0 < length ports) (sym ports_are) (omega arith) in
     let at_port : slice_get (ports_of c.args.config.now) 0 ≡ Some (slice_index_or c.deref.result.now 0 0) =
-        subst (λ (ports : List ℕ). slice_get ports 0 ≡ Some (slice_index_or c.deref.result.now 0 0)) ports_are (stands_at c.deref.result.now 0 0 some) in
+    subst (λ (ports : List ℕ). slice_get ports 0 ≡ Some (slice_index_or c.deref.result.now 0 0)) ports_are (stands_at c.deref.result.now 0 0 some) in
     let first = open_first _ _ _ _ _ _ _ (slice_index_or c.deref.result.now 0 0) _ _ at_port c.requires.asked c.requires.first c.in_ok-lane.ensures.opened c.in_ok-lane.ensures.others c.in_ok-lane.ensures.asked in
     let items : c.push.new.self.items ≡ c.in_ok-lane.lane ∷ [] = c.in-Ok.ensures.items ∙ ap (λ (l : List _). l ++ c.in_ok-lane.lane ∷ []) c.new-lanes.ensures.items in
     record {
@@ -46,7 +46,7 @@ split_lane-pass-requires-clause-desk g c κs within =
     let state = lane_state g.B.Door.Door.doorway g.B.Door.Door.faults g.B.Door.Door.broken g.B.Door.Door.is_out g.B.Clock.Clock.last g.B.Clock.Clock.to_come g.B.Gate.Gate.calls in
     let here : c.lanes.number - c.next_span-span.result < length c.lanes.lanes.items = omega (arith, less, length-map c.lanes.lanes.items state) in
     let at = map_at state c.lanes.lanes.items (c.lanes.number - c.next_span-span.result) c.index_mut.result.now
-        (stands_at c.lanes.lanes.items (c.lanes.number - c.next_span-span.result) c.index_mut.result.now here ∙ ap Some (sym c.index_mut.ensures.value)) in
+    (stands_at c.lanes.lanes.items (c.lanes.number - c.next_span-span.result) c.index_mut.result.now here ∙ ap Some (sym c.index_mut.ensures.value)) in
     let ports_are : length (ports_of c.args.config.now) ≡ c.len-number-end.result = search rules in
     (source _ _ _ _ _ _ _ _ _ _ _ _ opened c.next_span-span.ensures (omega (arith, c.lanes-test.true, ports_are)) at).of_desk
 
@@ -57,7 +57,7 @@ split_lane-pass-requires-clause-room g c κs within =
     let state = lane_state g.B.Door.Door.doorway g.B.Door.Door.faults g.B.Door.Door.broken g.B.Door.Door.is_out g.B.Clock.Clock.last g.B.Clock.Clock.to_come g.B.Gate.Gate.calls in
     let here : c.lanes.number - c.next_span-span.result < length c.lanes.lanes.items = omega (arith, less, length-map c.lanes.lanes.items state) in
     let at = map_at state c.lanes.lanes.items (c.lanes.number - c.next_span-span.result) c.index_mut.result.now
-        (stands_at c.lanes.lanes.items (c.lanes.number - c.next_span-span.result) c.index_mut.result.now here ∙ ap Some (sym c.index_mut.ensures.value)) in
+    (stands_at c.lanes.lanes.items (c.lanes.number - c.next_span-span.result) c.index_mut.result.now here ∙ ap Some (sym c.index_mut.ensures.value)) in
     let ports_are : length (ports_of c.args.config.now) ≡ c.len-number-end.result = search rules in
     let few = (source _ _ _ _ _ _ _ _ _ _ _ _ opened c.next_span-span.ensures (omega (arith, c.lanes-test.true, ports_are)) at).few in
     omega (arith, few, c.lanes-test.true, c.len-number-end.ensures.fits)
@@ -68,7 +68,7 @@ open_lane-requires-in-lanes-clause-new g c κs within =
     let count : length (ports_of c.args.config.now) ≡ c.len-number-end.result = search rules in
     let less : c.lanes.number < length c.deref-in-lanes.result.now = omega (arith, c.lanes-test.true, count, ap (λ (l : List ℕ). length l) ports_are) in
     let at_port = subst (λ (ports : List ℕ). slice_get ports c.lanes.number ≡ Some (slice_index_or c.deref-in-lanes.result.now c.lanes.number 0)) ports_are
-        (stands_at c.deref-in-lanes.result.now c.lanes.number 0 less) in
+    (stands_at c.deref-in-lanes.result.now c.lanes.number 0 less) in
     let among = apart (ports_of c.args.config.now) c.lanes.number (slice_index_or c.deref-in-lanes.result.now c.lanes.number 0) c.requires.different at_port in
     subst (λ (ports : List ℕ). IsNotAmong (slice_index_or c.deref-in-lanes.result.now c.lanes.number 0) ports) (sym c.lanes.invariant.opened.asked) among
 
@@ -78,11 +78,11 @@ returns-in_err-lane-2-clause-refused g c =
     let count : length (ports_of c.args.config.now) ≡ c.len-number-end.result = search rules in
     let less : c.lanes.number < length c.deref-in-lanes.result.now = omega (arith, c.lanes-test.true, count, ap (λ (l : List ℕ). length l) ports_are) in
     let at_port = subst (λ (ports : List ℕ). slice_get ports c.lanes.number ≡ Some (slice_index_or c.deref-in-lanes.result.now c.lanes.number 0)) ports_are
-        (stands_at c.deref-in-lanes.result.now c.lanes.number 0 less) in
+    (stands_at c.deref-in-lanes.result.now c.lanes.number 0 less) in
     let refused = refused_next _ _ _ _ _ (g.B.Bench.doors c.args.bench.now) (g.B.Bench.doors c.lanes.bench) (g.B.Bench.doors c.open_lane-in-lanes.new.bench) _ _ (slice_index_or c.deref-in-lanes.result.now c.lanes.number 0) _ _ c.lanes.invariant.opened at_port c.open_lane-in-lanes.ensures.asked c.in_err-lane-2.ensures.refused in
     let fault = err_from_is_err_and c.from_residual-in_err-lane-2.result c.from_residual-in_err-lane-2.ensures.1 in
     subst (λ (r : Result _ LanesFault). IfErr r (λ f. AreRefused (ports_of c.args.config.now) (g.B.Bench.doors c.args.bench.now) (g.B.Bench.doors c.open_lane-in-lanes.new.bench) f)) (sym fault.1)
-        (subst (λ (f : LanesFault). AreRefused (ports_of c.args.config.now) (g.B.Bench.doors c.args.bench.now) (g.B.Bench.doors c.open_lane-in-lanes.new.bench) f) (sym fault.2) refused)
+    (subst (λ (f : LanesFault). AreRefused (ports_of c.args.config.now) (g.B.Bench.doors c.args.bench.now) (g.B.Bench.doors c.open_lane-in-lanes.new.bench) f) (sym fault.2) refused)
 
 pub lanes-preserved : goal.lanes-preserved
 lanes-preserved g c =
@@ -91,29 +91,29 @@ lanes-preserved g c =
     let count : length (ports_of c.args.config.now) ≡ c.len-number-end.result = search rules in
     let less : c.lanes.number < length c.deref-in-lanes.result.now = omega (arith, c.lanes-test.true, count, ap (λ (l : List ℕ). length l) ports_are) in
     let at_port = subst (λ (ports : List ℕ). slice_get ports c.lanes.number ≡ Some (slice_index_or c.deref-in-lanes.result.now c.lanes.number 0)) ports_are
-        (stands_at c.deref-in-lanes.result.now c.lanes.number 0 less) in
+    (stands_at c.deref-in-lanes.result.now c.lanes.number 0 less) in
     let among = apart (ports_of c.args.config.now) c.lanes.number (slice_index_or c.deref-in-lanes.result.now c.lanes.number 0) c.requires.different at_port in
     let there = place _ _ _ _ _ _ _ _ _ _ _ c.lanes.invariant.opened c.next_span-span.ensures in
     let here : c.lanes.number - c.next_span-span.result < length c.lanes.lanes.items = (let h = there.1 in omega (arith, h, length-map c.lanes.lanes.items state)) in
     let at = map_at state c.lanes.lanes.items (c.lanes.number - c.next_span-span.result) c.index_mut.result.now
-        (stands_at c.lanes.lanes.items (c.lanes.number - c.next_span-span.result) c.index_mut.result.now here ∙ ap Some (sym c.index_mut.ensures.value)) in
+    (stands_at c.lanes.lanes.items (c.lanes.number - c.next_span-span.result) c.index_mut.result.now here ∙ ap Some (sym c.index_mut.ensures.value)) in
     let from = source _ _ _ _ _ _ _ _ _ _ _ _ c.lanes.invariant.opened c.next_span-span.ensures (omega (arith, c.lanes-test.true, count)) at in
     let is : c.lanes.number - c.next_span-span.result + c.next_span-span.result ≡ c.lanes.number = (let least = there.0 in omega (arith, least)) in
     let new = subst (λ (pass : PassView). IsNewLane c.args.module.now c.args.config.now.accept (g.B.Bench.moments c.args.bench.now)
-            ((g.B.Bench.doors c.lanes.bench).connections (slice_index_or c.deref-in-lanes.result.now c.lanes.number 0)) c.lanes.number pass (state c.in_ok-lane-2.lane))
-        c.split_lane-pass.ensures.new
-        (subst (λ (moments : Option (List ℕ)). IsNewLane c.args.module.now c.args.config.now.accept moments
-            ((g.B.Bench.doors c.lanes.bench).connections (slice_index_or c.deref-in-lanes.result.now c.lanes.number 0)) c.lanes.number c.split_lane-pass.result (state c.in_ok-lane-2.lane))
-        c.lanes.invariant.moments c.in_ok-lane-2.ensures.opened) in
+    ((g.B.Bench.doors c.lanes.bench).connections (slice_index_or c.deref-in-lanes.result.now c.lanes.number 0)) c.lanes.number pass (state c.in_ok-lane-2.lane))
+    c.split_lane-pass.ensures.new
+    (subst (λ (moments : Option (List ℕ)). IsNewLane c.args.module.now c.args.config.now.accept moments
+    ((g.B.Bench.doors c.lanes.bench).connections (slice_index_or c.deref-in-lanes.result.now c.lanes.number 0)) c.lanes.number c.split_lane-pass.result (state c.in_ok-lane-2.lane))
+    c.lanes.invariant.moments c.in_ok-lane-2.ensures.opened) in
     let more = open_more _ _ _ _ _ _ _ _ _ _ (slice_index_or c.deref-in-lanes.result.now c.lanes.number 0) _ _ _ _ from.opened from.below is at at_port among new
-        c.in_ok-lane-2.ensures.others c.in_ok-lane-2.ensures.asked in
+    c.in_ok-lane-2.ensures.others c.in_ok-lane-2.ensures.asked in
     let shape : map state c.push-in-lanes.new.self.items
-            ≡ slice_set (map state c.lanes.lanes.items) (c.lanes.number - c.next_span-span.result) (keeps (state c.index_mut.result.now)) ++ state c.in_ok-lane-2.lane ∷ [] =
-        ap (λ (l : List _). map state l) c.in-Ok-push.ensures.items
-        ∙ map-append state (slice_set c.lanes.lanes.items (c.lanes.number - c.next_span-span.result) c.split_lane-pass.new.lane) (c.in_ok-lane-2.lane ∷ [])
-        ∙ ap (λ (l : List LaneState). l ++ state c.in_ok-lane-2.lane ∷ [])
-            (map_set state c.lanes.lanes.items (c.lanes.number - c.next_span-span.result) c.split_lane-pass.new.lane
-            ∙ ap (λ (s : LaneState). slice_set (map state c.lanes.lanes.items) (c.lanes.number - c.next_span-span.result) s) c.split_lane-pass.ensures.given) in
+    ≡ slice_set (map state c.lanes.lanes.items) (c.lanes.number - c.next_span-span.result) (keeps (state c.index_mut.result.now)) ++ state c.in_ok-lane-2.lane ∷ [] =
+    ap (λ (l : List _). map state l) c.in-Ok-push.ensures.items
+    ∙ map-append state (slice_set c.lanes.lanes.items (c.lanes.number - c.next_span-span.result) c.split_lane-pass.new.lane) (c.in_ok-lane-2.lane ∷ [])
+    ∙ ap (λ (l : List LaneState). l ++ state c.in_ok-lane-2.lane ∷ [])
+    (map_set state c.lanes.lanes.items (c.lanes.number - c.next_span-span.result) c.split_lane-pass.new.lane
+    ∙ ap (λ (s : LaneState). slice_set (map state c.lanes.lanes.items) (c.lanes.number - c.next_span-span.result) s) c.split_lane-pass.ensures.given) in
     record {
       opened = subst (λ (l : List LaneState). OpenTo c.args.module.now c.args.config.now.accept (g.B.Bench.moments c.args.bench.now) (ports_of c.args.config.now) c.args.desk.now
           (g.B.Bench.doors c.args.bench.now) (g.B.Bench.doors c.open_lane-in-lanes.new.bench) c.next_span-span.result (c.lanes.number + 1) l) (sym shape) more;

@@ -11,7 +11,7 @@ returns-in-Ok g c =
     let same = c.without_lanes-in-Ok.ensures in
     let ended = c.hsm_local-status.ensures in
     let stay : (g.B.Bench.seeds c.hsm_local-status.new.bench ≡ g.B.Bench.seeds c.args.bench.now) × (g.B.Bench.doors c.hsm_local-status.new.bench ≡ g.B.Bench.doors c.args.bench.now) =
-        (ended.seeds, ended.doors) in
+    (ended.seeds, ended.doors) in
     record {
       words = rw same.1 (no_usage _ _ local ended.words);
       config = rw same.1 ended.config;

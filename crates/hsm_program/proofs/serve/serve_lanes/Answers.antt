@@ -41,16 +41,16 @@ returns-clause-served g c =
     let seed_is : c.args.seed ≡ seeds.last_seed = sym c.requires.seed ∙ ap (λ (s : SeedSide). s.last_seed) (sym c.open_lanes.ensures.seeds) in
     let module_is : c.module-module.result ≡ module_of c.args.config.now seeds.last_seed = c.module-module.ensures ∙ ap (λ (s : List ℕ). module_of c.args.config.now s) seed_is in
     let made = subst (λ (m : Module). AreLanes m c.args.config.now.accept moments doors.connections (ports_of c.args.config.now) c.in-Ok-new.desk (map state lanes))
-        module_is c.in_ok-lanes.ensures.made in
+    module_is c.in_ok-lanes.ensures.made in
     let ran = subst (λ (m : Module). AllZip (Ran m) (map state lanes) (map state served)) module_is
-        (ran_zip c.module-module.result state lanes served c.run_all.ensures.count c.run_all.ensures.ran) in
+    (ran_zip c.module-module.result state lanes served c.run_all.ensures.count c.run_all.ensures.ran) in
     let joined = subst (λ (passes : List PassView). IfSome c.end_lanes-pass.result (λ pass. AreJoined passes pass)) (sym (map_twice state pass_of served)) c.end_lanes-pass.ensures.joined in
     let views : map view c.end_lanes-pass.new.ends.items ≡ map view_of (map state served) =
-        ap (λ (ends : List _). map view ends) c.end_lanes-pass.ensures.ends ∙ map_twice end_of view served ∙ sym (map_twice state view_of served) in
+    ap (λ (ends : List _). map view ends) c.end_lanes-pass.ensures.ends ∙ map_twice end_of view served ∙ sym (map_twice state view_of served) in
     subst (λ (v : List LaneView). IfSome c.end_lanes-pass.result (λ pass. ServedBy doors moments seeds (g.B.Bench.doors c.open_lanes.new.bench) v pass c.args.config.now)) (sym views)
-        (served_some c.own_entries.ensures.total c.own_entries.ensures.there c.own_entries.ensures.every c.words_authorise.ensures c.clear_where_granted.ensures.legal
-            c.args.config.now doors (g.B.Bench.doors c.open_lanes.new.bench) seeds moments c.in-Ok-new.desk (map state lanes) (map state served) c.end_lanes-pass.result
-            made ran joined c.end_lanes-pass.ensures.numbers c.in_ok-lanes.ensures.asked)
+    (served_some c.own_entries.ensures.total c.own_entries.ensures.there c.own_entries.ensures.every c.words_authorise.ensures c.clear_where_granted.ensures.legal
+    c.args.config.now doors (g.B.Bench.doors c.open_lanes.new.bench) seeds moments c.in-Ok-new.desk (map state lanes) (map state served) c.end_lanes-pass.result
+    made ran joined c.end_lanes-pass.ensures.numbers c.in_ok-lanes.ensures.asked)
 
 pub returns-clause-few : goal.returns-clause-few
 returns-clause-few g c = λ k d less.
@@ -64,12 +64,12 @@ returns-clause-few g c = λ k d less.
     let seed_is : c.args.seed ≡ seeds.last_seed = sym c.requires.seed ∙ ap (λ (s : SeedSide). s.last_seed) (sym c.open_lanes.ensures.seeds) in
     let module_is : c.module-module.result ≡ module_of c.args.config.now seeds.last_seed = c.module-module.ensures ∙ ap (λ (s : List ℕ). module_of c.args.config.now s) seed_is in
     let made = subst (λ (m : Module). AreLanes m c.args.config.now.accept moments doors.connections (ports_of c.args.config.now) c.in-Ok-new.desk (map state lanes))
-        module_is c.in_ok-lanes.ensures.made in
+    module_is c.in_ok-lanes.ensures.made in
     let ran = subst (λ (m : Module). AllZip (Ran m) (map state lanes) (map state served)) module_is
-        (ran_zip c.module-module.result state lanes served c.run_all.ensures.count c.run_all.ensures.ran) in
+    (ran_zip c.module-module.result state lanes served c.run_all.ensures.count c.run_all.ensures.ran) in
     let joined = subst (λ (passes : List PassView). IfSome c.end_lanes-pass.result (λ pass. AreJoined passes pass)) (sym (map_twice state pass_of served)) c.end_lanes-pass.ensures.joined in
     let views : map view c.end_lanes-pass.new.ends.items ≡ map view_of (map state served) =
-        ap (λ (ends : List _). map view ends) c.end_lanes-pass.ensures.ends ∙ map_twice end_of view served ∙ sym (map_twice state view_of served) in
+    ap (λ (ends : List _). map view ends) c.end_lanes-pass.ensures.ends ∙ map_twice end_of view served ∙ sym (map_twice state view_of served) in
     let setting : Setting = record { config = c.args.config.now; seed = seeds.last_seed; to_come = doors.connections; moments = moments } in
     let count = c.in_ok-lanes.ensures.made.count in
     let same = length-map lanes state in
@@ -78,5 +78,5 @@ returns-clause-few g c = λ k d less.
     let ends = c.end_lanes-pass.new.ends.items in
     let at = subst (λ (v : List LaneView). slice_get v k ≡ Some (view (slice_index_or ends k d))) views (map_at view ends k (slice_index_or ends k d) (stands_at ends k d less)) in
     let few = few_some c.own_entries.ensures.total setting c.in-Ok-new.desk (map state lanes) (map state served) c.end_lanes-pass.result made ran joined c.end_lanes-pass.ensures.numbers
-        (c.end_lanes-pass.ensures.some some) k (view (slice_index_or ends k d)) at in
+    (c.end_lanes-pass.ensures.some some) k (view (slice_index_or ends k d)) at in
     omega (arith, few)
