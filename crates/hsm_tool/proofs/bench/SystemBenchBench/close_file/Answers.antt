@@ -1,4 +1,4 @@
-use Rattle.std.proofs.Common.{arith, refl, take, ap, sym, List, ℕ, length, ◌≡◌, ◌≤◌, ◌<◌, ◌∙◌, rules, inl, true, nat_lt}
+use Rattle.std.proofs.Common.{arith, refl, take, ap, sym, List, ℕ, length, ◌≡◌, ◌≤◌, ◌<◌, ◌∙◌, rules, inl}
 use Rattle.std.proofs.lemmas.List.{take_all}
 use Rattle.std.proofs.lemmas.Bool.Decides.{nat_tests}
 use Rattle.hsm_tool.proofs.bench.SystemBenchBench.close_file.Goals as goal
