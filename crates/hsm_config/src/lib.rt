@@ -8,6 +8,3 @@ mod ports;
 mod values;
 
 pub use configuration::{Config, ConfigFault};
-
-#[cfg(test)]
-mod tests;

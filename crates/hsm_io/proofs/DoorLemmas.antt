@@ -103,7 +103,7 @@ removed_at (x ∷ xs) port i e h = by (eqb x.0 port) e (λ within. removed_at xs
   where
     by : (b : Bool) → cond (not b) (1 + position_or_len (λ d. eqb d.0 port) xs) 0 ≡ i
         → (position_or_len (λ d. eqb d.0 port) xs < length xs
-          → take (position_or_len (λ d. eqb d.0 port) xs) xs ++ drop (position_or_len (λ d. eqb d.0 port) xs + 1) xs ≡ without port xs)
+        → take (position_or_len (λ d. eqb d.0 port) xs) xs ++ drop (position_or_len (λ d. eqb d.0 port) xs + 1) xs ≡ without port xs)
         → take i (x ∷ xs) ++ drop (i + 1) (x ∷ xs) ≡ cond b xs (x ∷ without port xs)
     by true at rest = subst (λ (n : ℕ). take n (x ∷ xs) ++ drop (n + 1) (x ∷ xs) ≡ xs) at refl
     by false at rest =

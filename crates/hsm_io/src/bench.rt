@@ -9,8 +9,11 @@ use crate::{Clock, Door, Gate, Source};
 /// What a command is given of the outside. A call leaves the sides as they were that are not its own.
 pub trait Bench {
     type File: Source + Send + Drop;
+
     type Door: Door + Send + Drop;
+
     type Clock: Clock + Send + Drop;
+
     type Gate: Gate + Send + Drop;
 
     /// What it keeps of its files.
@@ -60,7 +63,7 @@ pub trait Bench {
         requires few { length (doors self.old).asked < 65 }
         ensures doors { MatchOption result (DoorRefused (doors self.old) (doors self.new) port)
             (λ door. DoorOpened (doors self.old) (doors self.new) port (Self.Door.doorway door) (Self.Door.is_out door)
-              (Self.Door.faults door) (Self.Door.broken door)) }
+            (Self.Door.faults door) (Self.Door.broken door)) }
         ensures files { files self.new ≡ files self.old }
         ensures seeds { seeds self.new ≡ seeds self.old }
         ensures moments { moments self.new ≡ moments self.old };

@@ -41,4 +41,3 @@ pub use names::keep_name;
 pub use sink::{Put, Sink};
 pub use source::{Got, Source};
 pub use writing::{OutFailed, write_all};
-

@@ -117,8 +117,11 @@ impl MemBench {
 
 impl Bench for MemBench {
     type File = MemFile;
+
     type Door = MemDoor;
+
     type Clock = MemClock;
+
     type Gate = MemGate;
 
     ghost use Rattle.hsm_io.specs.MemoryForms.{file_side, opened_of, after_open, after_close};
@@ -174,7 +177,7 @@ impl Bench for MemBench {
         requires few { length self.old.doors.asked < 65 }
         ensures doors { MatchOption result (DoorRefused (door_side self.old.doors) (door_side self.new.doors) port)
             (λ door. DoorOpened (door_side self.old.doors) (door_side self.new.doors) port (Some (doorway_of door)) door.is_out
-              door.faults door.broken) }
+            door.faults door.broken) }
         ensures files { file_side self.new.files ≡ file_side self.old.files }
         ensures seeds { seed_side self.new.seeds ≡ seed_side self.old.seeds }
         ensures moments { Some self.new.moments ≡ Some self.old.moments }

@@ -1,5 +1,5 @@
 -- What is shown in the clear over all lanes, and by whom it was granted.
-use Rattle.std.proofs.Common.{◌≡◌, ◌⊎◌, ℕ, zero, suc, ◌+◌, ◌-◌, ◌<◌, ◌≤◌, Bool, true, false, List, [], ◌∷◌, ◌++◌, length, flat_map, All, slice_get, Some, refl, sym, ap, subst, ◌∙◌, inl, inr, arith}
+use Rattle.std.proofs.Common.{◌≡◌, ◌⊎◌, ℕ, zero, suc, ◌+◌, ◌-◌, ◌<◌, ◌≤◌, ◌==◌, Bool, true, false, List, [], ◌∷◌, ◌++◌, length, flat_map, All, slice_get, Some, refl, sym, ap, subst, ◌∙◌, inl, inr, arith, rules}
 use Rattle.std.specs.List.{AllZip}
 use Rattle.hsm_auth.specs.declared.activity.Activity.{Activity}
 use Rattle.hsm_auth.specs.declared.entry.Ask.{Ask}
@@ -107,8 +107,11 @@ ClearWhereGranted = (m : Module) (side : Side) (message : List ℕ) (h : List En
 is_asked : (ask : Ask) (activity : Activity) (minutes : ℕ) → ask ≡ Authorise activity minutes → is_authorise ask ≡ true
 is_asked ask activity minutes is = ap is_authorise is
 
+not_zero : (n : ℕ) → (suc n == 0) ≡ false
+not_zero n = search rules
+
 of_host : (n : ℕ) → kind_of (suc n) ≡ Host
-of_host n = refl
+of_host n = let e : kind_of (suc n) ≡ Host = rw (not_zero n) refl in e
 
 -- an entry that authorises is the console's
 console_number : (m : Module) (history : List Entry) (served : List Served) (number j place : ℕ) (entry : Entry) (activity : Activity) (minutes : ℕ) → Known m history number served

@@ -1,5 +1,5 @@
 -- Passes that are joined one after another.
-use Rattle.std.proofs.Common.{◌≡◌, ℕ, zero, suc, List, [], ◌∷◌, ◌++◌, length, map, flat_map, slice_get, Option, Some, None, refl, sym, ap, subst, ◌∙◌, append-nil, inl, inr}
+use Rattle.std.proofs.Common.{rules, arith, ◌<◌, IfSome, IsSome, ◌≡◌, ℕ, zero, suc, List, [], ◌∷◌, ◌++◌, length, map, flat_map, slice_get, Option, Some, None, refl, sym, ap, subst, ◌∙◌, append-nil, inl, inr}
 use Rattle.std.proofs.lemmas.Grind.{flat_map-append}
 use Rattle.hsm_auth.specs.Own.{own}
 use Rattle.hsm_desk.specs.Passes.{IsWhole, OnlyKin, PassView, Sound}
@@ -46,3 +46,20 @@ pub joined_push : (passes : List PassView) (before : Option PassView) (other pas
     → JoinedTo (passes ++ other ∷ []) (Some pass)
 joined_push passes None other pass none joins numbers = (subst (λ (front : List PassView). AreJoined (front ++ other ∷ []) pass) (sym none) (joined_first other pass joins), numbers)
 joined_push passes (Some mine) other pass all joins numbers = (joined_more passes mine other pass all.0 joins, numbers)
+
+-- what the passes in the end come to
+pub joined_all : (passes : List PassView) (pass : Option PassView) → JoinedTo passes pass → IfSome pass (λ p. AreJoined passes p)
+joined_all passes None none = tt
+joined_all passes (Some pass) joined = joined.0
+
+pub joined_numbers : (passes : List PassView) (pass : Option PassView) → JoinedTo passes pass → IfSome pass (λ p. IsWhole p → OnlyKin p)
+joined_numbers passes None none = tt
+joined_numbers passes (Some pass) joined = joined.1
+
+pub joined_some : (passes : List PassView) (pass : Option PassView) → JoinedTo passes pass → 0 < length passes → IsSome pass
+joined_some passes None none some = absurd (let e = ap (λ (l : List PassView). length l) none in omega (arith, e, some))
+joined_some passes (Some pass) joined some = search rules
+
+pub map-id : {A : Type 0} (xs : List A) → map (λ x. x) xs ≡ xs
+map-id [] = refl
+map-id (x ∷ xs) = ap (λ (rest : List _). x ∷ rest) (map-id xs)

@@ -10,3 +10,5 @@ pub mod ClearFields
 pub mod Opening
 pub mod Joining
 pub mod Served
+pub mod Apart
+pub mod Printing

@@ -150,32 +150,32 @@ span_next span number is = elim (cases_Bool (number == 2 * span)) [
 -- the lanes so far, by the span of the next one
 pub respan : (m : Module) (accept : ℕ) (moments : Option (List ℕ)) (ports : List ℕ) (desk : TableId) (before now : DoorSide) (span number : ℕ) (lanes : List LaneState)
     → OpenTo m accept moments ports desk before now span number lanes → OpenTo m accept moments ports desk before now (next_span span number) number lanes
-respan m accept moments ports desk before now span number lanes open = record {
-  count = open.count;
-  is_span = (span_next span number open.is_span).is_span;
+respan m accept moments ports desk before now span number lanes opened = record {
+  count = opened.count;
+  is_span = (span_next span number opened.is_span).is_span;
   each = λ k port lane at_port at_lane.
       let less = within lanes k lane at_lane in
       subst (λ (pass : PassView). IsNewLane m accept moments (before.connections port) k pass lane)
       (elim (cases_Bool (number == 2 * span)) [
         | inl same ↦ seat_by desk span (next_span span number) number number k
-            (step_respan span number k (span_same number span same) (omega (arith, less, open.count)) ∙ ap (λ (n : ℕ). step_of n number k) (sym (next_same span number same)))
+            (step_respan span number k (span_same number span same) (omega (arith, less, opened.count)) ∙ ap (λ (n : ℕ). step_of n number k) (sym (next_same span number same)))
         | inr other ↦ seat_by desk span (next_span span number) number number k (ap (λ (n : ℕ). step_of n number k) (sym (next_other span number other)))
       ])
-      (open.each k port lane at_port at_lane);
-  asked = open.asked;
-  others = open.others;
-  faults = open.faults;
+      (opened.each k port lane at_port at_lane);
+  asked = opened.asked;
+  others = opened.others;
+  faults = opened.faults;
 }
 
 -- a lane from whose pass one was split
 keeps_new : (m : Module) (accept : ℕ) (moments : Option (List ℕ)) (to_come : Option (List (List ℕ))) (number : ℕ) (pass : PassView) (lane : LaneState)
     → IsNewLane m accept moments to_come number pass lane → IsNewLane m accept moments to_come number (kept_pass pass) (keeps lane)
 keeps_new m accept moments to_come number pass lane new = record {
-  number = new.number;
-  accept = new.accept;
+  numbered = new.numbered;
+  accepts = new.accepts;
   least = new.least;
-  pass = ap kept_pass new.pass;
-  moments = new.moments;
+  seated = ap kept_pass new.seated;
+  clock = new.clock;
   doorway = new.doorway;
   faults = new.faults;
   broken = new.broken;
@@ -199,13 +199,13 @@ earlier : (m : Module) (accept : ℕ) (moments : Option (List ℕ)) (ports : Lis
     → OpenTo m accept moments ports desk before now span number lanes → number < 2 * span → k + span ≡ number → slice_get lanes k ≡ Some from
     → (j port : ℕ) (lane : LaneState) → slice_get ports j ≡ Some port → slice_get (slice_set lanes k (keeps from)) j ≡ Some lane
     → IsNewLane m accept moments (before.connections port) j (seat desk span (number + 1) j) lane
-earlier m accept moments ports desk before now span number k lanes from open below is at_from j port lane at_port at_lane =
-    let less : j < number = (let h = within (slice_set lanes k (keeps from)) j lane at_lane in omega (arith, h, set_length lanes k (keeps from), open.count)) in
+earlier m accept moments ports desk before now span number k lanes from opened below is at_from j port lane at_port at_lane =
+    let less : j < number = (let h = within (slice_set lanes k (keeps from)) j lane at_lane in omega (arith, h, set_length lanes k (keeps from), opened.count)) in
     let k_less : k < span = omega (arith, below, is) in
     elim (same_or j k) [
       | inl here ↦ (let lane_is : keeps from ≡ lane =
           some_same (keeps from) lane (sym (set_at lanes k (keeps from) (within lanes k from at_from)) ∙ ap (λ (n : ℕ). slice_get (slice_set lanes k (keeps from)) n) (sym here) ∙ at_lane) in
-          let old = open.each k port from (ap (λ (n : ℕ). slice_get ports n) (sym here) ∙ at_port) at_from in
+          let old = opened.each k port from (ap (λ (n : ℕ). slice_get ports n) (sym here) ∙ at_port) at_from in
           let kept = subst (λ (p : PassView). IsNewLane m accept moments (before.connections port) k p (keeps from)) (seat_kept desk span number k is k_less)
           (keeps_new m accept moments (before.connections port) k (seat desk span number k) from old) in
           subst (λ (l : LaneState). IsNewLane m accept moments (before.connections port) j (seat desk span (number + 1) j) l) lane_is
@@ -213,8 +213,8 @@ earlier m accept moments ports desk before now span number k lanes from open bel
       | inr other ↦ (let at_old : slice_get lanes j ≡ Some lane = sym (set_other lanes k j (keeps from) other) ∙ at_lane in
           let apart : j + span ≢ number = λ e. other (omega (arith, e, is)) in
           subst (λ (p : PassView). IsNewLane m accept moments (before.connections port) j p lane)
-          (seat_by desk span span number (number + 1) j (step_more span number j open.is_span.least below less apart))
-          (open.each j port lane at_port at_old))
+          (seat_by desk span span number (number + 1) j (step_more span number j opened.is_span.least below less apart))
+          (opened.each j port lane at_port at_old))
     ]
 
 -- one more lane, whose pass was split from that of the lane k
@@ -223,34 +223,34 @@ pub open_more : (m : Module) (accept : ℕ) (moments : Option (List ℕ)) (ports
     → slice_get ports number ≡ Some port → IsNotAmong port (take number ports)
     → IsNewLane m accept moments (now.connections port) number (new_pass from.pass) new → OthersStay port now after → after.asked ≡ now.asked ++ port ∷ []
     → OpenTo m accept moments ports desk before after span (number + 1) (slice_set lanes k (keeps from) ++ new ∷ [])
-open_more m accept moments ports desk before now after span number port k lanes from new open below is at_from at_port apart is_new stay asks =
+open_more m accept moments ports desk before now after span number port k lanes from new opened below is at_from at_port apart is_new stay asks =
     let k_less : k < span = omega (arith, below, is) in
-    let k_port = item_at ports k (let h = within ports number port at_port in omega (arith, h, is, k_less, open.is_span.least)) in
-    let from_pass : from.pass ≡ seat desk span number k = (open.each k k_port.0 from k_port.1 at_from).pass in
-    let pass_is : new_pass from.pass ≡ seat desk span (number + 1) number = ap new_pass from_pass ∙ seat_new desk span number k is k_less open.is_span.least in
+    let k_port = item_at ports k (let h = within ports number port at_port in omega (arith, h, is, k_less, opened.is_span.least)) in
+    let from_pass : from.pass ≡ seat desk span number k = (opened.each k k_port.0 from k_port.1 at_from).seated in
+    let pass_is : new_pass from.pass ≡ seat desk span (number + 1) number = ap new_pass from_pass ∙ seat_new desk span number k is k_less opened.is_span.least in
     let there : IsNewLane m accept moments (before.connections port) number (seat desk span (number + 1) number) new =
-    subst (λ (c : Option (List (List ℕ))). IsNewLane m accept moments c number (seat desk span (number + 1) number) new) (open.others port apart)
+    subst (λ (c : Option (List (List ℕ))). IsNewLane m accept moments c number (seat desk span (number + 1) number) new) (opened.others port apart)
     (subst (λ (q : PassView). IsNewLane m accept moments (now.connections port) number q new) pass_is is_new) in
     let one_more = take_push number port ports at_port in
     record {
-      count = length_push (slice_set lanes k (keeps from)) new ∙ ap (λ (n : ℕ). n + 1) (set_length lanes k (keeps from) ∙ open.count);
-      is_span = record { power = open.is_span.power; is = open.is_span.is; least = (let l = open.is_span.least in omega (arith, l)); most = omega (arith, below) };
+      count = length_push (slice_set lanes k (keeps from)) new ∙ ap (λ (n : ℕ). n + 1) (set_length lanes k (keeps from) ∙ opened.count);
+      is_span = record { power = opened.is_span.power; is = opened.is_span.is; least = (let l = opened.is_span.least in omega (arith, l)); most = omega (arith, below) };
       each = λ j p lane at_p at_lane. elim (pushed (slice_set lanes k (keeps from)) new j lane at_lane) [
-        | inr last ↦ (let j_is : j ≡ number = last.0 ∙ set_length lanes k (keeps from) ∙ open.count in
+        | inr last ↦ (let j_is : j ≡ number = last.0 ∙ set_length lanes k (keeps from) ∙ opened.count in
             let p_is : p ≡ port = some_same p port (sym at_p ∙ ap (λ (n : ℕ). slice_get ports n) j_is ∙ at_port) in
             subst (λ (l : LaneState). IsNewLane m accept moments (before.connections p) j (seat desk span (number + 1) j) l) last.1
             (subst (λ (n : ℕ). IsNewLane m accept moments (before.connections n) j (seat desk span (number + 1) j) new) (sym p_is)
             (subst (λ (n : ℕ). IsNewLane m accept moments (before.connections port) n (seat desk span (number + 1) n) new) (sym j_is) there)))
-        | inl old ↦ earlier m accept moments ports desk before now span number k lanes from open below is at_from j p lane at_p old
+        | inl old ↦ earlier m accept moments ports desk before now span number k lanes from opened below is at_from j p lane at_p old
       ];
-      asked = asks ∙ ap (λ (front : List ℕ). front ++ port ∷ []) open.asked ∙ sym one_more;
+      asked = asks ∙ ap (λ (front : List ℕ). front ++ port ∷ []) opened.asked ∙ sym one_more;
       others = λ other not_among.
           let parts = among_push other port (take number ports) (subst (IsNotAmong other) one_more not_among) in
           elim (stay.connections other) [
-            | inl kept ↦ kept ∙ open.others other parts.0
+            | inl kept ↦ kept ∙ opened.others other parts.0
             | inr same ↦ absurd (parts.1 (sym same))
           ];
-      faults = stay.faults ∙ open.faults;
+      faults = stay.faults ∙ opened.faults;
     }
 
 -- the first lane, with the first pass of the desk

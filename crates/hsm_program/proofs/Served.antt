@@ -58,7 +58,7 @@ kin_at setting desk before after pass e k lane at =
     let port = item_at (ports_of setting.config) k (let h = within before k first.0 first.1 in omega (arith, h, e.lanes.count)) in
     let new = e.lanes.each k port.0 first.0 port.1 first.1 in
     let ran = each_of_zip (Ran m) before after e.ran k first.0 lane first.1 at in
-    ran.served.made.kin ∙ ap (λ (p : PassView). p.kin) new.pass
+    ran.served.made.kin ∙ ap (λ (p : PassView). p.kin) new.seated
 
 kin_of_pass : (setting : Setting) (desk : TableId) (before after : List LaneState) (pass : PassView) (e : Ended setting desk before after pass)
     (k : ℕ) (p : PassView) → slice_get (map pass_of after) k ≡ Some p → p.kin ≡ (k, step_of e.lanes.span (length before) k) ∷ []
@@ -98,12 +98,12 @@ all_lanes setting desk before after pass e =
       each = λ k port s lane at_port at_seat at_lane.
           let new = e.lanes.each k port lane at_port at_lane in
           let s_is : lane.pass ≡ s = some_same lane.pass s (sym (map_at pass_of before k lane at_lane) ∙ at_seat) in
-          subst (λ (p : PassView). IsNewLane m setting.config.accept setting.moments (setting.to_come port) k p lane) (sym new.pass ∙ s_is) new;
-      seats = λ k s at_seat.
+          subst (λ (p : PassView). IsNewLane m setting.config.accept setting.moments (setting.to_come port) k p lane) (sym new.seated ∙ s_is) new;
+      as_split = λ k s at_seat.
           let lane = map_from pass_of before k s at_seat in
           let port = item_at (ports_of setting.config) k (let h = within before k lane.0 lane.1 in omega (arith, h, e.lanes.count)) in
           let new = e.lanes.each k port.0 lane.0 port.1 lane.1 in
-          let s_is : s ≡ seat desk e.lanes.span (length before) k = sym lane.2 ∙ new.pass in
+          let s_is : s ≡ seat desk e.lanes.span (length before) k = sym lane.2 ∙ new.seated in
           (ap (λ (p : PassView). p.seen) s_is, ap number s_is);
       kept = λ k lane at_lane.
           let kin = kin_at setting desk before after pass e k lane at_lane in

@@ -50,8 +50,8 @@ own_none k seen none = ap (own k) none
 entries_of : (setting : Setting) (history : List Entry) (k port : ℕ) (pass : PassView) (before after : LaneState) (one : OneLane setting history k port pass before after)
     → own k history ≡ all_entries one.ran.connections
 entries_of setting history k port pass before after one =
-    let of_pass : number before.pass ≡ k = ap number one.new.pass ∙ one.numbered in
-    let unseen : before.pass.seen ≡ [] = ap (λ (p : PassView). p.seen) one.new.pass ∙ one.unseen in
+    let of_pass : number before.pass ≡ k = ap number one.new.seated ∙ one.numbered in
+    let unseen : before.pass.seen ≡ [] = ap (λ (p : PassView). p.seen) one.new.seated ∙ one.unseen in
     one.kept
     ∙ ap (λ (n : ℕ). own n after.pass.seen) (sym of_pass)
     ∙ one.ran.served.made.own
@@ -74,7 +74,7 @@ told_of setting history k port pass before after one came is =
       record {
         order = tells.came ∙ ap (λ (taken : List Taken). map bytes_of taken ++ told.0.to_come) (sym tells.taken);
         each = subst (λ (taken : List Taken). AllZip (IsToldBy m (kind_of k)) one.ran.connections taken) (sym tells.taken)
-            (subst (λ (n : ℕ). AllZip (IsToldBy m (kind_of n)) one.ran.connections tells.ended) one.new.number tells.each);
+            (subst (λ (n : ℕ). AllZip (IsToldBy m (kind_of n)) one.ran.connections tells.ended) one.new.numbered tells.each);
       },
     )
 
@@ -85,9 +85,9 @@ lane_runs setting history k port pass before after one =
     let entries = entries_of setting history k port pass before after one in
     record {
       entries = entries;
-      each = subst (λ (n : ℕ). All (IsServed m (kind_of n)) one.ran.connections) one.new.number one.ran.served.each;
+      each = subst (λ (n : ℕ). All (IsServed m (kind_of n)) one.ran.connections) one.new.numbered one.ran.served.each;
       reports = reports_of setting history k port pass before after one;
-      moments = λ c is. subst (HaveMoments c) (sym entries) (one.ran.served.clock.told c (one.new.moments ∙ is)).0;
+      moments = λ c is. subst (HaveMoments c) (sym entries) (one.ran.served.clock.told c (one.new.clock ∙ is)).0;
       written = λ came is.
           let t = told_of setting history k port pass before after one came is in
           (t.0, t.1, zip_map (IsToldBy m (kind_of k)) (IsWritten m k) one.ran.connections t.0.taken (λ served taken told. told.talks.says) t.2.each);
@@ -105,14 +105,14 @@ pub lane_in_order : (setting : Setting) (history : List Entry) (k port : ℕ) (p
 lane_in_order setting history k port pass before after one =
     let m = module_in setting in
     record {
-      most = subst (λ (n : ℕ). length one.ran.connections ≤ n) one.new.accept one.ran.most;
+      most = subst (λ (n : ℕ). length one.ran.connections ≤ n) one.new.accepts one.ran.most;
       order = λ came is. let t = told_of setting history k port pass before after one came is in (t.0, t.1, t.2.order);
       counted = λ came is.
           let t = told_of setting history k port pass before after one came is in
           (t.0, t.1, zip_length (IsToldBy m (kind_of k)) one.ran.connections t.0.taken t.2.each);
       all = λ clean came is.
           let t = told_of setting history k port pass before after one came is in
-          (t.0, t.1, subst (λ (n : ℕ). (t.0.to_come ≡ []) ⊎ (length one.ran.connections ≡ n)) one.new.accept (one.ran.complete (false_is clean) t.0 t.1));
+          (t.0, t.1, subst (λ (n : ℕ). (t.0.to_come ≡ []) ⊎ (length one.ran.connections ≡ n)) one.new.accepts (one.ran.complete (false_is clean) t.0 t.1));
     }
 
 pub lane_causes : (setting : Setting) (history : List Entry) (k port : ℕ) (pass : PassView) (before after : LaneState) (one : OneLane setting history k port pass before after)
@@ -140,14 +140,14 @@ pub record AllLanes (setting : Setting) (pass : PassView) (seats : List PassView
   pub ran : AllZip (Ran (module_in setting)) before after
   pub each : (k port : ℕ) (seat : PassView) (lane : LaneState) → slice_get (ports_of setting.config) k ≡ Some port → slice_get seats k ≡ Some seat → slice_get before k ≡ Some lane
       → IsNewLane (module_in setting) setting.config.accept setting.moments (setting.to_come port) k seat lane
-  pub seats : (k : ℕ) (seat : PassView) → slice_get seats k ≡ Some seat → (seat.seen ≡ []) × (number seat ≡ k)
+  pub as_split : (k : ℕ) (seat : PassView) → slice_get seats k ≡ Some seat → (seat.seen ≡ []) × (number seat ≡ k)
   pub kept : (k : ℕ) (lane : LaneState) → slice_get after k ≡ Some lane → own k pass.seen ≡ own k lane.pass.seen
   pub legal : IsLegal pass.seen
   pub whole : IsWhole pass
   pub below : MadeBelow (length before) pass.seen
 
 -- the connections that each lane served
-pub connections_of : (m : Module) (before after : List LaneState) → AllZip (Ran m) before after → List (List Served)
+abbrev pub connections_of : (m : Module) (before after : List LaneState) → AllZip (Ran m) before after → List (List Served)
 connections_of m [] [] all = []
 connections_of m [] (a ∷ after) all = absurd all
 connections_of m (b ∷ before) [] all = absurd all
@@ -198,7 +198,7 @@ standing setting pass seats before after all k port view served at_port at_view 
     let s = item_at seats k (omega (arith, all.seated, less)) in
     let a = map_from view_of after k view at_view in
     let last_is : p.last ≡ a.0 = some_same p.last a.0 (sym p.last_there ∙ a.1) in
-    let seated = all.seats k s.0 s.1 in
+    let seated = all.as_split k s.0 s.1 in
     record {
       seat = s.0;
       first = p.first;
@@ -222,7 +222,7 @@ of_each setting pass seats before after all P holds k port view served at_port a
     (subst (λ (c : List Served). P k port (view_of s.last) c) s.same (holds k port s.seat s.first s.last s.one))
 
 -- how many messages the lanes count together
-pub lane_sum : List LaneView → ℕ
+abbrev pub lane_sum : List LaneView → ℕ
 lane_sum [] = 0
 lane_sum (lane ∷ lanes) = message_count lane.reports + lane_sum lanes
 
@@ -288,7 +288,7 @@ known setting pass seats before after all =
             entries = runs.entries ∙ ap all_entries s.same;
             each = subst (λ (c : List Served). All (IsServed m (kind_of k)) c) s.same runs.each;
             hosts = λ host.
-                subst (λ (c : List Served). AuthoriseNothing (all_entries c)) s.same (s.one.ran.served.hosts (ap kind_of s.one.new.number ∙ host));
+                subst (λ (c : List Served). AuthoriseNothing (all_entries c)) s.same (s.one.ran.served.hosts (ap kind_of s.one.new.numbered ∙ host));
           };
     }
 

@@ -1,5 +1,5 @@
 -- The lanes before they are served, and the passes that they book with; no public contract cites these.
-use Rattle.std.specs.Prelude.{◌≡◌, ◌<◌, ◌≤◌, ◌+◌, ◌*◌, ◌^◌, ◌||◌, ◌⊎◌, nat_lt, nat_le, ◌==◌, if◌then◌else◌, ℕ, Bool, false, List, [], ◌∷◌, ◌++◌, length, map, flat_map, slice_get, take, Option, Some}
+use Rattle.std.specs.Prelude.{◌≡◌, ◌<◌, ◌≤◌, ◌+◌, ◌*◌, ◌^◌, ◌||◌, ◌⊎◌, nat_lt, nat_le, ◌==◌, if◌then◌else◌, ℕ, Bool, false, List, [], ◌∷◌, ◌++◌, length, map, flat_map, slice_get, take, Option, Some, None}
 use Rattle.atomic_table.specs.Seated.{TableId}
 use Rattle.hsm_auth.specs.Own.{own}
 use Rattle.hsm_desk.specs.Passes.{PassView, Sound, KeepsOwn, kept_pass}
@@ -44,11 +44,11 @@ IsUnasked to_come doorway = (came : List (List ℕ)) → to_come ≡ Some came �
 
 -- A lane of this number that served no connection yet: the connections to come at its door and the moments to come of its clock are those that the bench told.
 pub record IsNewLane (m : Module) (accept : ℕ) (moments : Option (List ℕ)) (to_come : Option (List (List ℕ))) (number : ℕ) (pass : PassView) (lane : LaneState) : Type 0 where
-  pub number : lane.number ≡ number
-  pub accept : lane.accept ≡ accept
+  pub numbered : lane.number ≡ number
+  pub accepts : lane.accept ≡ accept
   pub least : lane.least ≡ least_for m (kind_of number)
-  pub pass : lane.pass ≡ pass
-  pub moments : lane.moments ≡ moments
+  pub seated : lane.pass ≡ pass
+  pub clock : lane.moments ≡ moments
   pub doorway : IsUnasked to_come lane.doorway
   pub faults : lane.faults ≡ 0
   pub broken : lane.broken ≡ 0

@@ -36,12 +36,17 @@ pub fn read_words(words: &[String]) -> Result<Command, WordsFault>
     let [first, rest @ ..] = words else {
         return Err(WordsFault::Usage(0));
     };
-    match first.as_bytes() {
-        b"serve" => read_serve(rest),
-        b"script" => read_script(rest),
-        b"check" => read_check(rest),
-        b"explain" => read_code(rest),
-        _ => Err(WordsFault::Usage(0)),
+    let word = first.as_bytes();
+    if word == b"serve".as_slice() {
+        read_serve(rest)
+    } else if word == b"script".as_slice() {
+        read_script(rest)
+    } else if word == b"check".as_slice() {
+        read_check(rest)
+    } else if word == b"explain".as_slice() {
+        read_code(rest)
+    } else {
+        Err(WordsFault::Usage(0))
     }
 }
 

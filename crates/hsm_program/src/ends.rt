@@ -1,6 +1,7 @@
 //! The lanes after they were served: their passes joined, the status, and the lines.
 
-ghost use Rattle.std.specs.Prelude.{◌≡◌, ◌≤◌, ◌<◌, ◌^◌, [], All, IfSome, IsSome, OnOk, OnErr, length, map};
+ghost use Rattle.std.specs.Prelude.{◌≡◌, ◌≤◌, ◌<◌, ◌^◌, [], All, IfSome, IsSome, OnOk, OnErr, length, map, ◌||◌, if◌then◌else◌};
+ghost use Rattle.std.specs.List.{list_any};
 ghost use Rattle.std.specs.Vec.{vec_capacity};
 ghost use Rattle.hsm_desk.specs.Passes.{IsWhole, OnlyKin};
 ghost use Rattle.hsm_io.specs.Outside.{Rose};
@@ -75,18 +76,51 @@ fn is_cut(ended: ConnEnd) -> bool
     matches!(ended, ConnEnd::Cut | ConnEnd::Short(_))
 }
 
+fn has_fault(reports: &[Report]) -> bool
+    ensures { result ≡ list_any (λ report. is_fault report.ended) reports.now }
+{
+    reports.iter().any(|report| is_fault(report.ended))
+}
+
+fn has_cut(reports: &[Report]) -> bool
+    ensures { result ≡ list_any (λ report. is_cut report.ended) reports.now }
+{
+    reports.iter().any(|report| is_cut(report.ended))
+}
+
+fn any_failed<D: Door>(ends: &[LaneEnd<D>]) -> bool
+    ensures { result ≡ list_any (λ end. end.door_fault || list_any (λ report. is_fault report.ended) end.reports.items) ends.now }
+{
+    ends.iter()
+        .any(|end| end.door_fault || has_fault(&end.reports))
+}
+
+fn any_cut<D: Door>(ends: &[LaneEnd<D>]) -> bool
+    ensures { result ≡ list_any (λ end. list_any (λ report. is_cut report.ended) end.reports.items) ends.now }
+{
+    ends.iter().any(|end| has_cut(&end.reports))
+}
+
+fn status_for(failed: bool, cut: bool) -> u8
+    ensures { result ≡ (if failed then 7 else if cut then 6 else 0) }
+{
+    if failed {
+        7
+    } else if cut {
+        6
+    } else {
+        0
+    }
+}
+
 /// The exit status after serving: 7 where a read or a write of a connection or a door failed; else 6 where a connection was cut or ended by
 /// a short frame; else 0.
 pub(crate) fn status_of<D: Door>(ends: &[LaneEnd<D>]) -> u8
     ensures { result ≡ status_of_lanes (lane_views D.doorway D.faults D.broken ends.now) }
 {
-    if ends.iter().any(|end| end.door_fault || end.reports.iter().any(|report| is_fault(report.ended))) {
-        return 7;
-    }
-    if ends.iter().any(|end| end.reports.iter().any(|report| is_cut(report.ended))) {
-        return 6;
-    }
-    0
+    let failed = any_failed(ends);
+    let cut = any_cut(ends);
+    status_for(failed, cut)
 }
 
 // How many messages the reports count together.
@@ -102,6 +136,7 @@ fn messages_of(reports: &[Report]) -> u64
 }
 
 // Writes the line of a lane.
+#[tactic(auto, unfolding(crate::specs::Serving::lane_line))]
 fn print_lane<D: Door, S: Sink>(number: usize, end: &LaneEnd<D>, out: &mut S) -> Result<(), OutFailed>
     requires { message_count end.now.reports.items < 2 ^ 64 }
     ensures ok { OnOk result (Appends (S.stands_for out.old) (S.stands_for out.new) (lane_line number (lane_view D.doorway D.faults D.broken end.now))) }

@@ -32,7 +32,7 @@ fn ports_of(config: &Config) -> ArrayVec<u16, 65>
 {
     let mut ports = ArrayVec::new();
     ports.push(config.console_port);
-    for port in &config.host_ports {
+    'ports: for port in config.host_ports.as_slice() {
         ports.push(*port);
     }
     ports
@@ -115,16 +115,18 @@ pub(crate) fn open_lanes<B: Bench>(
     let ports = ports_of(config);
     let mut lanes = Vec::new(alloc);
     let lane = open_lane(alloc, module, config.accept, 0, ports[0], first, bench)?;
-    if lanes.push(lane).is_err() {
-        return Err(LanesFault::Memory);
+    match lanes.push(lane) {
+        Ok(()) => {}
+        Err(_) => return Err(LanesFault::Memory),
     }
     let mut span = 1;
     'lanes: for number in 1..ports.len() {
         span = next_span(span, number);
         let pass = split_lane(desk, &mut lanes[number - span]);
         let lane = open_lane(alloc, module, config.accept, number, ports[number], pass, bench)?;
-        if lanes.push(lane).is_err() {
-            return Err(LanesFault::Memory);
+        match lanes.push(lane) {
+            Ok(()) => {}
+            Err(_) => return Err(LanesFault::Memory),
         }
     }
     Ok(lanes)

@@ -1,6 +1,6 @@
 //! The command `serve`.
 
-ghost use Rattle.std.specs.Prelude.{◌≡◌, ◌≤◌, ◌<◌, ◌^◌, ℕ, List, [], All, Some, None, false, true, IfErr, IfOk, IfSome, IsTrue, length};
+ghost use Rattle.std.specs.Prelude.{◌≡◌, ◌≤◌, ◌<◌, ◌^◌, ℕ, List, [], All, Some, None, false, true, IfErr, IfOk, IfSome, IsSome, IsTrue, length};
 ghost use Rattle.hsm_io.specs.Outside.{Rose};
 ghost use Rattle.hsm_io.specs.Files.{kept_name};
 ghost use Rattle.hsm_config.specs.Rules.{all_different, are_odd};
@@ -9,6 +9,7 @@ ghost use Rattle.hsm_program.specs.Lanes.{AreRefused};
 ghost use Rattle.hsm_program.specs.Runs.{AnswersConfig, WritesNothing};
 ghost use Rattle.hsm_program.specs.Serving.{AnswersServe, HasServed, IsListenFault, IsServeStatus, IsThere, ServedBy, has_lanes, lane_views};
 ghost use Rattle.hsm_config.specs.Configs.{ports_of};
+ghost use Rattle.hsm_server.specs.Lanes.{message_count};
 
 use crate::ends::{end_lanes, print_lanes, status_of};
 use crate::lanes::{LanesFault, open_lanes};
@@ -65,7 +66,7 @@ where
     let Ok(mut ends) = Vec::with_capacity(alloc, lanes.len()) else {
         return Err(LanesFault::Memory);
     };
-    run_lanes(rt, &module, &desk, &mut lanes);
+    run_lanes(rt, &module, &desk, lanes.as_mut_slice());
     let pass = end_lanes(&desk, lanes, &mut ends);
     Ok(Over { pass, ends })
 }

@@ -47,7 +47,7 @@ moment_within hosts text said is = go (number_within (2 ^ 40) text) refl is
     go None reads is = absurd (cc)
     go (Some moment) reads is =
         let same : Moment moment ≡ said = cc in
-        subst (Within hosts (length text)) same (number_below 2 ^ 40 text moment reads, omega arith)
+        subst (Within hosts (length text)) same (number_below (2 ^ 40) text moment reads, omega arith)
 
 console_within : (hosts : ℕ) (text : List ℕ) (said : Said) → console_of text ≡ Some said → Within hosts (length text) said
 unfolding console_of

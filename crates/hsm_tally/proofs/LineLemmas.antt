@@ -1,6 +1,6 @@
 -- What one more byte does to the lines of a text.
-use Rattle.std.proofs.Common.{◌≡◌, ◌<◌, ◌≤◌, ◌+◌, ◌-◌, ◌^◌, ◌∙◌, ◌++◌, ◌∷◌, [], ℕ, zero, suc, min, List, length, take, drop, inl, inr, Bool, true, false, ◌&&◌, ◌||◌, cond, eqb, ltb, not, refl, sym, ap, ap₂, subst, arith, bytes_eq, sum_by, count_by, codes}
-use Rattle.std.specs.List.{slice_split, onto_first}
+use Rattle.std.proofs.Common.{◌≡◌, ◌<◌, ◌≤◌, ◌+◌, ◌-◌, ◌^◌, ◌∙◌, ◌++◌, ◌∷◌, [], ℕ, zero, suc, min, List, length, take, drop, inl, inr, Bool, true, false, ◌&&◌, ◌||◌, cond, eqb, ltb, not, refl, sym, ap, ap₂, subst, arith, bytes_eq, count_by, codes}
+use Rattle.std.specs.List.{onto_first}
 use Rattle.std.proofs.lemmas.Bool.{cases_Bool, ltb-true, ltb-false}
 use Rattle.std.proofs.lemmas.List.{take_all, take-append-le, length-take-le, drop-take}
 use Rattle.std.proofs.lemmas.List.Splits.{length-slice_split}

@@ -121,7 +121,11 @@ fn is_ok(line: &[u8]) -> bool
 fn counted(count: u64, counts: bool) -> u64
     ensures { result ≡ (if counts then min (count + 1) (2 ^ 64 - 1) else count) }
 {
-    if counts { count.saturating_add(1) } else { count }
+    if counts {
+        count.saturating_add(1)
+    } else {
+        count
+    }
 }
 
 // Appends the byte, where there is room for it.

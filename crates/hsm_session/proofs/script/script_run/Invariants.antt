@@ -1,4 +1,4 @@
-use Rattle.std.proofs.Common.{◌≡◌, ◌+◌, ◌≤◌, sum_by, drop}
+use Rattle.std.proofs.Common.{◌≡◌, ◌+◌, ◌≤◌, ◌^◌, sum_by, drop}
 use Rattle.std.specs.List.{AllByRecursion}
 use Rattle.hsm_auth.specs.History.{IsKnown}
 use Rattle.hsm_session.specs.Reading.{all_said}

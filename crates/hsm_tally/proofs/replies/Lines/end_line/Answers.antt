@@ -1,4 +1,4 @@
-use Rattle.std.proofs.Common.{◌∙◌, ap, List, ℕ, Bool, cond, min, ◌+◌, ◌-◌, ◌^◌}
+use Rattle.std.proofs.Common.{◌∙◌, ap, Bool, cond, min, ◌+◌, ◌-◌, ◌^◌}
 use Rattle.hsm_tally.specs.Replies.{is_ok, is_other}
 use Rattle.hsm_tally.proofs.LineLemmas.{ended}
 use Rattle.hsm_tally.proofs.replies.Lines.end_line.Goals as goal
