@@ -1,0 +1,5 @@
+//! Tests over the calls of hsm_make.
+#![tactic(auto)]
+
+#[cfg(test)]
+mod scripts;
