@@ -1,4 +1,4 @@
-// The commands that serve no lanes, and words that are no command.
+// The commands that serve no lanes.
 use crate::benches::{Case, PLAIN, SETTINGS, Setup, comes_to};
 use hsm_config::ConfigFault;
 use hsm_program::Outcome;
@@ -8,59 +8,6 @@ use std::test::Fail;
 const SCRIPT: &[u8] = b"L1 001930303031425530313038354538313335343046304142343035\n";
 
 const PRINTED: &[u8] = b"L1 000E3030303142563030443544343446\nEND 1\n";
-
-#[test]
-fn words_that_are_no_command(rt: HostRuntime) -> Result<(), Fail> {
-    let cases: [(&[&str], u64); 30] = [
-        (&[], 0),
-        (&[""], 0),
-        (&["fly"], 0),
-        (&["fly", "c"], 0),
-        (&["Serve", "c"], 0),
-        (&["--help"], 0),
-        (&["serve"], 1),
-        (&["serve", ""], 1),
-        (&["serve", "-c"], 1),
-        (&["serve", "c", "x"], 2),
-        (&["serve", "c", ""], 2),
-        (&["check"], 1),
-        (&["check", ""], 1),
-        (&["check", "-c"], 1),
-        (&["check", "c", "x"], 2),
-        (&["check", "c", ""], 2),
-        (&["explain"], 1),
-        (&["explain", "dg"], 1),
-        (&["explain", "GC"], 1),
-        (&["explain", "DH"], 1),
-        (&["explain", "D"], 1),
-        (&["explain", "DGX", ""], 1),
-        (&["explain", "DG", "NG"], 2),
-        (&["script"], 1),
-        (&["script", "", "-f", "g"], 1),
-        (&["script", "-c", "f"], 1),
-        (&["script", "c"], 2),
-        (&["script", "c", "-f", "g"], 2),
-        (&["script", "c", ""], 2),
-        (&["script", "c", "f", ""], 3),
-    ];
-    for (words, place) in cases {
-        let case = Case {
-            words,
-            // Nothing else is looked at.
-            setup: Setup {
-                bad_files: &[0],
-                bad_seeds: &[0],
-                ..PLAIN
-            },
-            bad_writes: &[0],
-            ended: (2, Outcome::Usage(place)),
-            output: b"",
-            bad_name: b"",
-        };
-        comes_to(&rt, &case)?;
-    }
-    Ok(())
-}
 
 #[test]
 fn scripts_and_configurations(rt: HostRuntime) -> Result<(), Fail> {
@@ -117,29 +64,6 @@ fn scripts_and_configurations(rt: HostRuntime) -> Result<(), Fail> {
             },
             bad_writes: &[],
             ended: (status, outcome),
-            output,
-            bad_name: b"",
-        };
-        comes_to(&rt, &case)?;
-    }
-    Ok(())
-}
-
-#[test]
-fn rows_explained(rt: HostRuntime) -> Result<(), Fail> {
-    let served = (0, Outcome::Served);
-    let cases: [(&str, &[u32], (u8, Outcome), &[u8]); 4] = [
-        ("DG", &[], served, b"DG DH\nP 15\n16H 15\n12N 15\n1N 15\n"),
-        ("NG", &[], served, b"NG NH\n12N 15\n16H 15\nclear 1\n"),
-        ("RA", &[], served, b"RA RB\n"),
-        ("RA", &[0], (3, Outcome::OutFault), b""),
-    ];
-    for (code, bad_writes, ended, output) in cases {
-        let case = Case {
-            words: &["explain", code],
-            setup: PLAIN,
-            bad_writes,
-            ended,
             output,
             bad_name: b"",
         };
