@@ -230,11 +230,6 @@ fn documents(rt: HostRuntime) -> Result<(), Fail> {
         ConfigFault::NotToml,
         ConfigFault::Rule(10)
     )?;
-    assert_eq!(rt;
-        text.as_str(),
-        "out of memory; \
-         the configuration is no TOML document; \
-         the configuration breaks rule 10"
-    );
+    assert_eq!(rt; text.as_str(), "no memory; not toml; rule 10");
     Ok(())
 }
