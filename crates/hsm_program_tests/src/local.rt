@@ -1,13 +1,107 @@
-// The commands that serve no lanes.
-use crate::benches::{Case, PLAIN, SETTINGS, Setup, comes_to};
+// The commands that serve no lanes, and words that are no command.
+use crate::benches::{Case, PLAIN, SETTINGS, Setup, comes_to, runs};
 use hsm_config::ConfigFault;
 use hsm_program::Outcome;
+use std::alloc::{Alloc, Global};
+use std::process::Abort;
+use std::sync::Wait;
 use std::test::Fail;
+use std::thread::Threads;
 
 // A script of one message, and what it prints.
 const SCRIPT: &[u8] = b"L1 001930303031425530313038354538313335343046304142343035\n";
 
 const PRINTED: &[u8] = b"L1 000E3030303142563030443544343446\nEND 1\n";
+
+// These words are no command, and the word at this place is the first that shows it. Nothing else is looked at: every other call would fail.
+fn is_no_command(
+    rt: &(impl Abort + Alloc<A = Global> + Threads + Wait + Sync),
+    words: &[&str],
+    place: u64,
+) -> Result<(), Fail> {
+    let setup = Setup {
+        bad_files: &[0],
+        bad_seeds: &[0],
+        ..PLAIN
+    };
+    let over = runs(rt, words, &setup, &[0])?;
+    assert_eq!(rt;
+        (over.ended.status, over.ended.outcome),
+        (2, Outcome::Usage(place))
+    );
+    assert!(rt; over.out.bytes().is_empty() && over.bench.bad_name().is_empty());
+    assert!(rt; over.ended.lanes.is_empty() && over.ended.pass.is_none());
+    Ok(())
+}
+
+#[test]
+fn words_of_serve_and_check(rt: HostRuntime) -> Result<(), Fail> {
+    is_no_command(&rt, &[], 0)?;
+    is_no_command(&rt, &[""], 0)?;
+    is_no_command(&rt, &["fly"], 0)?;
+    is_no_command(&rt, &["fly", "c"], 0)?;
+    is_no_command(&rt, &["Serve", "c"], 0)?;
+    is_no_command(&rt, &["--help"], 0)?;
+    is_no_command(&rt, &["serve"], 1)?;
+    is_no_command(&rt, &["serve", ""], 1)?;
+    is_no_command(&rt, &["serve", "-c"], 1)?;
+    is_no_command(&rt, &["serve", "c", "x"], 2)?;
+    is_no_command(&rt, &["serve", "c", ""], 2)?;
+    is_no_command(&rt, &["check"], 1)?;
+    is_no_command(&rt, &["check", ""], 1)?;
+    is_no_command(&rt, &["check", "-c"], 1)?;
+    is_no_command(&rt, &["check", "c", "x"], 2)?;
+    is_no_command(&rt, &["check", "c", ""], 2)
+}
+
+#[test]
+fn words_of_explain_and_script(rt: HostRuntime) -> Result<(), Fail> {
+    is_no_command(&rt, &["explain"], 1)?;
+    is_no_command(&rt, &["explain", "dg"], 1)?;
+    is_no_command(&rt, &["explain", "GC"], 1)?;
+    is_no_command(&rt, &["explain", "DH"], 1)?;
+    is_no_command(&rt, &["explain", "D"], 1)?;
+    is_no_command(&rt, &["explain", "DGX", ""], 1)?;
+    is_no_command(&rt, &["explain", "DG", "NG"], 2)?;
+    is_no_command(&rt, &["script"], 1)?;
+    is_no_command(&rt, &["script", "", "-f", "g"], 1)?;
+    is_no_command(&rt, &["script", "-c", "f"], 1)?;
+    is_no_command(&rt, &["script", "c"], 2)?;
+    is_no_command(&rt, &["script", "c", "-f", "g"], 2)?;
+    is_no_command(&rt, &["script", "c", ""], 2)?;
+    is_no_command(&rt, &["script", "c", "f", ""], 3)
+}
+
+// What these words come to, and what they print.
+fn prints(
+    rt: &(impl Abort + Alloc<A = Global> + Threads + Wait + Sync),
+    words: &[&str],
+    bad_writes: &[u32],
+    ended: (u8, Outcome),
+    output: &[u8],
+) -> Result<(), Fail> {
+    let over = runs(rt, words, &PLAIN, bad_writes)?;
+    assert_eq!(rt; (over.ended.status, over.ended.outcome), ended);
+    assert_eq!(rt; over.out.bytes(), output);
+    Ok(())
+}
+
+#[test]
+fn rows_explained(rt: HostRuntime) -> Result<(), Fail> {
+    let served = (0, Outcome::Served);
+    let dg = b"DG DH\nP 15\n16H 15\n12N 15\n1N 15\n".as_slice();
+    let ng = b"NG NH\n12N 15\n16H 15\nclear 1\n".as_slice();
+    prints(&rt, &["explain", "DG"], &[], served, dg)?;
+    prints(&rt, &["explain", "NG"], &[], served, ng)?;
+    prints(&rt, &["explain", "RA"], &[], served, b"RA RB\n".as_slice())?;
+    prints(
+        &rt,
+        &["explain", "RA"],
+        &[0],
+        (3, Outcome::OutFault),
+        b"".as_slice(),
+    )
+}
 
 #[test]
 fn scripts_and_configurations(rt: HostRuntime) -> Result<(), Fail> {

@@ -136,6 +136,106 @@ fn as_many_as_accepted(rt: HostRuntime) -> Result<(), Fail> {
     Ok(())
 }
 
+const NONE: &[u8] =
+    b"lane 0: 0 connections, 0 messages\nlane 1: 1 connections, 0 messages\nlane 2: 0 connections, 0 messages\n";
+
+const ONE: &[u8] =
+    b"lane 0: 0 connections, 0 messages\nlane 1: 1 connections, 1 messages\nlane 2: 0 connections, 0 messages\n";
+
+const BOTH: &[u8] =
+    b"lane 0: 0 connections, 0 messages\nlane 1: 1 connections, 2 messages\nlane 2: 0 connections, 0 messages\n";
+
+// What the console's port and two hosts' come to: the status, the lines, how the first connection of lane 1 ended where there is one, and whether its door failed.
+fn first_ends(
+    rt: &(impl Abort + Alloc<A = Global> + Threads + Wait + Sync),
+    ports: &[Port<'_>],
+    status: u8,
+    lines: &[u8],
+    ended: Option<(ConnEnd, u64, &[u8])>,
+    door_fault: bool,
+) -> Result<(), Fail> {
+    let over = serves(rt, ports, status, lines)?;
+    assert_eq!(rt; told(&over, 1, 0), ended);
+    let end = over.ended.lanes.get(1).ok_or("lane")?;
+    assert_eq!(rt; end.door_fault, door_fault);
+    Ok(())
+}
+
+// The ports of a console and two hosts, of which the first has these connections.
+fn beside<'a>(first: Port<'a>) -> [Port<'a>; 3] {
+    [sound(1500, &[]), first, sound(1502, &[])]
+}
+
+#[test]
+fn early_ends(rt: HostRuntime) -> Result<(), Fail> {
+    let clean = Some((ConnEnd::Clean, 2, TWO));
+    first_ends(&rt, &beside(sound(1501, &[TWICE])), 0, BOTH, clean, false)?;
+    // The input ends within the frame.
+    let cut = Some((ConnEnd::Cut, 0, b"".as_slice()));
+    let inputs: &[&[u8]] = &[b"\x00\x190001BU01085E813540F0AB40"];
+    first_ends(&rt, &beside(sound(1501, inputs)), 6, NONE, cut, false)?;
+    // A length below the least ends the connection behind the answer.
+    let short = Some((ConnEnd::Short(5), 1, ANSWERED));
+    let inputs: &[&[u8]] = &[b"\x00\x190001BU01085E813540F0AB405\x00\x050001B"];
+    first_ends(&rt, &beside(sound(1501, inputs)), 6, ONE, short, false)?;
+    // A failed call tells more than an input that ends early, in whichever lane it stands.
+    let inputs: &[&[u8]] = &[b"\x00"];
+    let failing = Port {
+        bad_nexts: &[0],
+        ..sound(1502, &[])
+    };
+    let ports = [sound(1500, &[]), sound(1501, inputs), failing];
+    first_ends(&rt, &ports, 7, NONE, cut, false)
+}
+
+#[test]
+fn failing_calls(rt: HostRuntime) -> Result<(), Fail> {
+    // The first read.
+    let host = Port {
+        bad_reads: &[0],
+        ..sound(1501, &[TWICE])
+    };
+    let unread = Some((ConnEnd::ReadFault, 0, b"".as_slice()));
+    first_ends(&rt, &beside(host), 7, NONE, unread, false)?;
+    // The second read: what came before is answered.
+    let host = Port {
+        bad_reads: &[1],
+        ..sound(1501, &[TWICE])
+    };
+    let answered = Some((ConnEnd::ReadFault, 2, TWO));
+    first_ends(&rt, &beside(host), 7, BOTH, answered, false)?;
+    // The first write: both messages were booked.
+    let host = Port {
+        bad_writes: &[0],
+        ..sound(1501, &[TWICE])
+    };
+    let unwritten = Some((ConnEnd::WriteFault, 2, b"".as_slice()));
+    first_ends(&rt, &beside(host), 7, BOTH, unwritten, false)
+}
+
+#[test]
+fn failing_doors(rt: HostRuntime) -> Result<(), Fail> {
+    // At once.
+    let host = Port {
+        bad_nexts: &[0],
+        ..sound(1501, &[TWICE])
+    };
+    first_ends(&rt, &beside(host), 7, QUIET_LINES, None, true)?;
+    // Behind the first of three connections: it is not asked again.
+    let host = Port {
+        bad_nexts: &[1],
+        ..sound(1501, &[TWICE, ASKED, ASKED])
+    };
+    let clean = Some((ConnEnd::Clean, 2, TWO));
+    first_ends(&rt, &beside(host), 7, BOTH, clean, true)?;
+    // It is not asked again behind its end.
+    let host = Port {
+        bad_nexts: &[2],
+        ..sound(1501, &[TWICE])
+    };
+    first_ends(&rt, &beside(host), 0, BOTH, clean, false)
+}
+
 // The console's connections are looked at like those of the hosts.
 #[test]
 fn console_cut(rt: HostRuntime) -> Result<(), Fail> {
