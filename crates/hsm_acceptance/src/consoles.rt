@@ -1,6 +1,7 @@
 // Console texts and host messages in one script: lines, and what each prints. bench/console_rows.py computes them. The
 // last entry of a table is the end of the script.
-use crate::laboratory::{Set, end_of, prints};
+use crate::laboratory::{end_of, prints};
+use hsm_laboratory::Set;
 use std::test::Fail;
 
 // A grant with an end is gone at that moment and does not come back. The set is E1.

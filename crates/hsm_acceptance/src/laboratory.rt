@@ -1,71 +1,13 @@
-// Configurations of the test laboratory, and runs of scripts and messages under them.
+// Runs of scripts and messages under the modules of the test laboratory.
 use hsm_auth::Ledger;
-use hsm_config::Config;
 use hsm_io::MemSink;
+use hsm_laboratory::{Set, module_of};
 use hsm_nibbles::hex_character;
-use hsm_rows::Module;
 use hsm_session::{ScriptEnd, ScriptFault, script_run};
 use itoa::Buffer;
 use std::alloc::{Alloc, AllocError, Global};
 use std::process::Abort;
 use std::test::Fail;
-
-// What each configuration begins with: the digests are those of the officers' words, abc and hello.
-const HEAD: &[u8] = br#"
-version = 1
-header = 4
-officers = ["ba7816bf8f01cfea414140de5dae2223b00361a396177a9cb410ff61f20015ad",
-            "2cf24dba5fb0a30e26e83b2ac5b9e29e1b161e5c1fa7425e73043362938b9824"]
-console_port = 1500
-accept = 8
-"#;
-
-// Every half is 133457799BBCDFF1.
-const PAIR_E: &[u8] = b"\"133457799BBCDFF1133457799BBCDFF1\",";
-
-// Both halves are 0123456789ABCDEF.
-const PAIR_14: &[u8] = b"\"0123456789ABCDEF0123456789ABCDEF\",";
-
-#[derive(Clone, Copy)]
-pub(crate) enum Set {
-    T,
-    E1,
-    E2,
-}
-
-// The pairs of a set that lists them; pair 14-15 is the one at place 7.
-fn push_pairs(text: &mut Vec<u8>, pair_14: &[u8]) -> Result<(), AllocError> {
-    text.extend_from_slice(b"lmk = [")?;
-    for place in 0..20 {
-        text.extend_from_slice(if place == 7 { pair_14 } else { PAIR_E })?;
-    }
-    text.extend_from_slice(b"]\n")
-}
-
-// The configuration of a set with so many hosts.
-fn config_text(alloc: Global, set: Set, hosts: u8) -> Result<Vec<u8>, AllocError> {
-    let mut text = HEAD.to_vec(alloc)?;
-    match set {
-        Set::T => text.extend_from_slice(b"lmk = \"test\"\n")?,
-        Set::E1 => push_pairs(&mut text, PAIR_E)?,
-        Set::E2 => push_pairs(&mut text, PAIR_14)?,
-    }
-    text.extend_from_slice(b"host_ports = [")?;
-    for host in 0..hosts {
-        text.extend_from_slice(Buffer::new().format(1501 + u16::from(host)).as_bytes())?;
-        text.push(b',')?;
-    }
-    text.extend_from_slice(b"]\n")?;
-    Ok(text)
-}
-
-// The module of a set, with so many hosts and the zero seed.
-pub(crate) fn module_of(alloc: Global, set: Set, hosts: u8) -> Result<Module, Fail> {
-    match Config::read(alloc, &config_text(alloc, set, hosts)?) {
-        Ok(config) => Ok(config.module([0; 32])),
-        Err(_) => Err("configuration")?,
-    }
-}
 
 pub(crate) fn end_of(entries: u64, cut: u32, short: u32) -> Result<ScriptEnd, ScriptFault> {
     Ok(ScriptEnd {
@@ -85,7 +27,7 @@ pub(crate) fn runs_on(
     ended: Result<ScriptEnd, ScriptFault>,
 ) -> Result<(), Fail> {
     let alloc = rt.alloc();
-    let module = module_of(alloc, set, hosts)?;
+    let module = module_of(alloc, set, hosts).ok_or("module")?;
     let mut ledger = Ledger::new(alloc)?;
     let mut out = MemSink::new(alloc, output.len() + 1_000, Vec::new(alloc))?;
     let run = script_run(alloc, &module, &mut ledger, script, &mut out);

@@ -4,24 +4,16 @@
 #[cfg(test)]
 mod cards;
 #[cfg(test)]
-mod connections;
-#[cfg(test)]
 mod consoles;
 #[cfg(test)]
 mod diagnostics;
-#[cfg(test)]
-mod holding;
 #[cfg(test)]
 mod keys;
 #[cfg(test)]
 mod laboratory;
 #[cfg(test)]
-mod lanes;
-#[cfg(test)]
 mod macs;
 #[cfg(test)]
 mod pins;
-#[cfg(test)]
-mod rooms;
 #[cfg(test)]
 mod scripts;

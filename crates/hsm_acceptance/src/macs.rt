@@ -1,5 +1,6 @@
 // The MAC commands: messages and their whole answers, without header. bench/data_rows.py computes them.
-use crate::laboratory::{Set, answers, answers_under};
+use crate::laboratory::{answers, answers_under};
+use hsm_laboratory::Set;
 use std::test::Fail;
 
 // M6: whole messages, messages in parts, and refusals in the order of their checks.

@@ -1,5 +1,6 @@
 // The PIN commands: messages and their whole answers, without header. bench/pin_rows.py computes them.
-use crate::laboratory::{Set, answers, answers_under};
+use crate::laboratory::{answers, answers_under};
+use hsm_laboratory::Set;
 use std::test::Fail;
 
 // Answers that follow from their definitions by hand. The first one's fill is AA, of the words 0 and 1.

@@ -1,5 +1,6 @@
 // Scripts of host lanes and what they print, under the LMK sets of the test laboratory.
-use crate::laboratory::{Set, end_of, runs, runs_on};
+use crate::laboratory::{end_of, runs, runs_on};
+use hsm_laboratory::Set;
 use hsm_session::{Line, ScriptFault, read_script};
 use itoa::Buffer;
 use std::alloc::AllocError;

@@ -1,11 +1,11 @@
 // A PIN in the clear that a lane is to show while the console cancels the activity, under set T.
 ghost use Rattle.std.specs.Prelude.{◌≡◌, None};
 
-use crate::laboratory::{Set, module_of};
 use crate::lanes::{add, clock_of, door_of, run_all, take_last, told};
 use hsm_auth::Ledger;
 use hsm_desk::Desk;
 use hsm_io::Gate;
+use hsm_laboratory::{Set, module_of};
 use hsm_session::ConnEnd;
 use std::alloc::{Alloc, Global};
 use std::process::Abort;
@@ -91,7 +91,7 @@ fn cancels_while_held(
     progress: &Progress,
 ) -> Result<(), Fail> {
     let alloc = rt.alloc();
-    let module = module_of(alloc, Set::T, 1)?;
+    let module = module_of(alloc, Set::T, 1).ok_or("module")?;
     let (desk, mut pass) = Desk::new(alloc, Ledger::new(alloc)?)?;
     let mut lanes = Vec::new(alloc);
     let own = desk.split(&mut pass);

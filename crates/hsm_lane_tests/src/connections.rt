@@ -1,10 +1,10 @@
 // Connections in memory, served over a desk of their own, under set E1.
-use crate::laboratory::{Set, module_of};
 use arrayvec::ArrayVec;
 use hsm_auth::Ledger;
 use hsm_desk::Desk;
 use hsm_frame::Frames;
 use hsm_io::{MemClock, MemLink, OpenGate};
+use hsm_laboratory::{Set, module_of};
 use hsm_session::{ConnEnd, Kind, Report, Tools, least_message, serve_link};
 use hsm_text::Reply;
 use std::alloc::{Alloc, Global};
@@ -34,7 +34,7 @@ struct Case {
 
 fn serves(rt: &(impl Abort + Alloc<A = Global> + Wait), case: &Case) -> Result<(), Fail> {
     let alloc = rt.alloc();
-    let module = module_of(alloc, Set::E1, 1)?;
+    let module = module_of(alloc, Set::E1, 1).ok_or("module")?;
     let (desk, pass) = Desk::new(alloc, Ledger::new(alloc)?)?;
     let mut moments = ArrayVec::new();
     moments.push(7);

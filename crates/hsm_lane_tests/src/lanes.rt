@@ -4,11 +4,11 @@ ghost use Rattle.hsm_io.specs.Connections.{Doorway};
 ghost use Rattle.hsm_io.specs.MemoryLinks.{IsUntouched};
 ghost use Rattle.hsm_server.specs.Lanes.{IsReady, lane_state};
 
-use crate::laboratory::{Set, module_of};
 use arrayvec::ArrayVec;
 use hsm_auth::Ledger;
 use hsm_desk::{Desk, Pass};
 use hsm_io::{Clock, Door, Gate, MemClock, MemDoor, MemLink, OpenGate};
+use hsm_laboratory::{Set, module_of};
 use hsm_rows::Module;
 use hsm_server::{Lane, LaneEnd, kind_for, run_lanes};
 use hsm_session::{ConnEnd, least_message};
@@ -147,7 +147,7 @@ fn runs_alone(
     accept: u16,
 ) -> Result<(usize, u64, bool), Fail> {
     let alloc = rt.alloc();
-    let module = module_of(alloc, Set::E1, 1)?;
+    let module = module_of(alloc, Set::E1, 1).ok_or("module")?;
     let (desk, mut pass) = Desk::new(alloc, Ledger::new(alloc)?)?;
     let own = desk.split(&mut pass);
     let door = door_of(alloc, &[ASKED, ASKED, ASKED], 100, &[], bad_nexts)?;
@@ -205,7 +205,7 @@ fn run_with_gates<'a>(
     second: Meeting<'a>,
 ) -> Result<(), Fail> {
     let alloc = rt.alloc();
-    let module = module_of(alloc, Set::E1, 2)?;
+    let module = module_of(alloc, Set::E1, 2).ok_or("module")?;
     let (desk, mut one) = Desk::new(alloc, Ledger::new(alloc)?)?;
     let two = desk.split(&mut one);
     let mut lanes = Vec::new(alloc);
@@ -270,7 +270,7 @@ fn console_beside_host(
     rt: &(impl Abort + Alloc<A = Global> + Threads + Wait + Sync),
 ) -> Result<(), Fail> {
     let alloc = rt.alloc();
-    let module = module_of(alloc, Set::E1, 1)?;
+    let module = module_of(alloc, Set::E1, 1).ok_or("module")?;
     let (desk, mut pass) = Desk::new(alloc, Ledger::new(alloc)?)?;
     let console = desk.split(&mut pass);
     let host = desk.split(&mut pass);

@@ -1,12 +1,12 @@
 // How much room the reads of a connection offer.
 ghost use Rattle.std.specs.Prelude.{◌≡◌, false, None};
 
-use crate::laboratory::{Set, module_of};
 use arrayvec::ArrayVec;
 use hsm_auth::Ledger;
 use hsm_desk::Desk;
 use hsm_frame::Frames;
 use hsm_io::{Got, Link, MemClock, OpenGate, Put};
+use hsm_laboratory::{Set, module_of};
 use hsm_session::{ConnEnd, Kind, Tools, least_message, serve_link};
 use hsm_text::Reply;
 use std::alloc::{Alloc, Global};
@@ -51,7 +51,7 @@ impl Link for Noting {
 
 fn offers(rt: &(impl Abort + Alloc<A = Global> + Wait)) -> Result<(), Fail> {
     let alloc = rt.alloc();
-    let module = module_of(alloc, Set::E1, 1)?;
+    let module = module_of(alloc, Set::E1, 1).ok_or("module")?;
     let (desk, pass) = Desk::new(alloc, Ledger::new(alloc)?)?;
     let mut moments = ArrayVec::new();
     moments.push(7);
