@@ -4,7 +4,7 @@ use Rattle.std.proofs.lemmas.Bool.{cases_lt}
 use Rattle.circular_buffer.proofs.Places.{slice_get-append_left}
 use Rattle.hsm_auth.specs.declared.entry.Entry.{Entry}
 use Rattle.hsm_auth.specs.Own.{own}
-use Rattle.hsm_desk.specs.Kin.{Covers, first_pair}
+use Rattle.hsm_desk.specs.Kin.{Spans, first_pair}
 use Rattle.hsm_desk.specs.Passes.{PassView, Makes, Sound, number}
 use Rattle.hsm_io.specs.Moments.{tick, after_now, after_calls}
 use Rattle.hsm_session.specs.Connections.{AskClock, AuthoriseNothing, HaveMoments, last_moment, is_authorise}
@@ -46,7 +46,7 @@ makes_both p q r xs ys m n =
       sound = n.sound;
     }
   where
-    by_place : (k : ℕ) (e : Entry) → length p.seen ≤ k → slice_get r.seen k ≡ Some e → (j : ℕ) (pair : ℕ × ℕ) → slice_get p.kin j ≡ Some pair → Covers pair e.pass
+    by_place : (k : ℕ) (e : Entry) → length p.seen ≤ k → slice_get r.seen k ≡ Some e → (j : ℕ) (pair : ℕ × ℕ) → slice_get p.kin j ≡ Some pair → Spans pair e.pass
         → (k < length q.seen) ⊎ (length q.seen ≤ k) → e.pass ≡ number p
     by_place k e past at j pair there covers (inl less) =
         m.apart k e past (sym (slice_get-append_left q.seen n.begins.0 k less) ∙ ap (λ (h : List Entry). slice_get h k) n.begins.1 ∙ at) j pair there covers
