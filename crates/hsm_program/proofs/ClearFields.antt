@@ -10,7 +10,7 @@ use Rattle.hsm_auth.specs.Own.{own}
 use Rattle.hsm_answers.specs.Clear.{Authorises, IsGrantedAt, ShowsClear}
 use Rattle.hsm_answers.specs.Messages.{Side, console, message_ask}
 use Rattle.hsm_rows.specs.declared.settings.Module.{Module}
-use Rattle.hsm_session.specs.declared.plans.Kind.TheVariants.{Host}
+use Rattle.hsm_auth.specs.declared.activity.Place.TheVariants.{Host}
 use Rattle.hsm_session.specs.Connections.{AuthoriseNothing, IsEntryFor, is_authorise}
 use Rattle.hsm_session.specs.Plans.{side_of}
 use Rattle.hsm_server.specs.Lanes.{IsServed, Served, all_entries, kind_of}

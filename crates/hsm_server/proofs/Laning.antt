@@ -10,7 +10,7 @@ use Rattle.hsm_desk.specs.Passes.{Sound}
 use Rattle.hsm_io.specs.Connections.{Breaks, Doorway, Taken, TakesBack, Traffic, silent}
 use Rattle.hsm_io.specs.Gates.{GateCall, gate_calls}
 use Rattle.hsm_rows.specs.declared.settings.Module.{Module}
-use Rattle.hsm_session.specs.declared.plans.Kind.{Kind}
+use Rattle.hsm_auth.specs.declared.activity.Place.{Place}
 use Rattle.hsm_session.specs.declared.serving.ConnEnd.{ConnEnd}
 use Rattle.hsm_session.specs.declared.serving.ConnEnd.TheVariants.{Clean, Cut, Short, ReadFault, WriteFault}
 use Rattle.hsm_session.specs.declared.serving.Report.{Report}
@@ -78,7 +78,7 @@ messages_more connections served before now =
     ∙ ap (λ (entries : List (ℕ × Entry)). length entries) (entries_more connections served)
 
 -- one more connection at a door that tells
-tells_more : (m : Module) (kind : Kind) (d e : Doorway) (connections : List Served) (served : Served) (bytes : List ℕ) (rest : List (List ℕ)) (taken : Taken)
+tells_more : (m : Module) (kind : Place) (d e : Doorway) (connections : List Served) (served : Served) (bytes : List ℕ) (rest : List (List ℕ)) (taken : Taken)
     → Tells m kind d e connections → e.to_come ≡ bytes ∷ rest
     → Talks m kind (silent bytes) taken.traffic served.messages served.entries served.report.ended → is_fault served.report.ended ≡ not (taken.faults == 0)
     → Tells m kind d (record { to_come = rest; taken = e.taken ++ taken ∷ [] }) (connections ++ served ∷ [])
@@ -177,7 +177,7 @@ pub far_none : (m : Module) (s : LaneState) → Sound s.pass → s.is_out ≡ fa
 far_none m s sound out fault = record { connections = []; counted = refl; served = serves_none m s sound; none_out = out; no_fault = fault; kept = refl }
 
 -- one more was served
-pub far_more : (m : Module) (start s t : LaneState) (count : ℕ) (kind : Kind) (between : Option Doorway) (broken_between : ℕ) (traffic_before traffic_after : Option Traffic)
+pub far_more : (m : Module) (start s t : LaneState) (count : ℕ) (kind : Place) (between : Option Doorway) (broken_between : ℕ) (traffic_before traffic_after : Option Traffic)
     (faults_before faults_after : ℕ) (last_was_read : Bool) (report : Report)
     → SoFar m start s count → kind ≡ kind_of start.number
     → Serves m kind s.number (scene_at s traffic_before) (scene_at t traffic_after) report
@@ -193,7 +193,7 @@ far_more m start s t count kind between broken_between traffic_before traffic_af
     let at_last = scene_at t traffic_after in
     let of_lane : Serves m (kind_of start.number) start.number at_first at_last report =
     subst (λ (n : ℕ). Serves m (kind_of start.number) n at_first at_last report) f.served.number
-    (subst (λ (k : Kind). Serves m k s.number at_first at_last report) is serves) in
+    (subst (λ (k : Place). Serves m k s.number at_first at_last report) is serves) in
     let served : Served = record { messages = of_lane.messages; entries = of_lane.entries; report = report } in
     record {
       connections = f.connections ++ served ∷ [];

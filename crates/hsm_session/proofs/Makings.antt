@@ -16,8 +16,8 @@ use Rattle.hsm_answers.specs.Clear.{Authorises}
 use Rattle.hsm_answers.specs.Messages.{Side, host, message_ask}
 use Rattle.hsm_io.specs.Moments.{tick, after_now, after_calls}
 use Rattle.hsm_rows.specs.declared.settings.Module.{Module}
-use Rattle.hsm_session.specs.declared.plans.Kind.{Kind}
-use Rattle.hsm_session.specs.declared.plans.Kind.TheVariants.{Host}
+use Rattle.hsm_auth.specs.declared.activity.Place.{Place}
+use Rattle.hsm_auth.specs.declared.activity.Place.TheVariants.{Host}
 use Rattle.hsm_session.specs.declared.serving.Count.{Count}
 use Rattle.hsm_session.specs.Connections.{AskClock, AuthoriseNothing, first_place, last_place, last_moment, is_authorise}
 use Rattle.hsm_session.specs.Plans.{side_of}
@@ -174,8 +174,8 @@ no_words m message words Recent is = refl
 pub hosts_none : AuthoriseNothing []
 hosts_none = λ i placed at. absurd (cc)
 
-pub hosts_more : (m : Module) (kind : Kind) (message : List ℕ) (entries : List (ℕ × Entry)) (placed : ℕ × Entry) → WordsAuthorise
+pub hosts_more : (m : Module) (kind : Place) (message : List ℕ) (entries : List (ℕ × Entry)) (placed : ℕ × Entry) → WordsAuthorise
     → placed.1.ask ≡ message_ask m (side_of kind) message → (kind ≡ Host → AuthoriseNothing entries) → kind ≡ Host → AuthoriseNothing (entries ++ placed ∷ [])
 hosts_more m kind message entries placed words asked before is =
-    let of_host : message_ask m host message ≡ placed.1.ask = ap (λ (k : Kind). message_ask m (side_of k) message) (sym is) ∙ sym asked in
+    let of_host : message_ask m host message ≡ placed.1.ask = ap (λ (k : Place). message_ask m (side_of k) message) (sym is) ∙ sym asked in
     get_push (λ i (p : ℕ × Entry). is_authorise p.1.ask ≡ false) entries placed (before is) (no_words m message words placed.1.ask of_host)

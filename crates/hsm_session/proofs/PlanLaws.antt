@@ -10,8 +10,8 @@ use Rattle.hsm_rows.specs.Table.{RowShape, console_rows, row_A, row_C, row_VA, r
 use Rattle.hsm_answers.specs.Asks.{empty_ask, ask_of}
 use Rattle.hsm_answers.specs.Answers.{answer}
 use Rattle.hsm_answers.specs.Messages.{Side, host, console, header_of, command_of, text_after, enabled_row, unknown_answer, ask_by, answer_by, message_ask, message_answer}
-use Rattle.hsm_session.specs.declared.plans.Kind.{Kind}
-use Rattle.hsm_session.specs.declared.plans.Kind.TheVariants.{Host, Console}
+use Rattle.hsm_auth.specs.declared.activity.Place.{Place}
+use Rattle.hsm_auth.specs.declared.activity.Place.TheVariants.{Host, Console}
 use Rattle.hsm_session.specs.declared.plans.Planned.{Planned}
 use Rattle.hsm_session.specs.declared.plans.Planned.TheVariants.{Unknown}
 use Rattle.hsm_session.specs.Plans.{IsPlanned, IsOwnPlan, least_for, planned_row, planned_text, side_of}
@@ -83,7 +83,7 @@ word_is_there m row [] found = absurd (no_row (list_any (bytes_eq []) m.disabled
 word_is_there m row (byte ∷ code) found = omega arith
 
 -- header and text leave room for the reply's codes
-pub room_is : (m : Module) (kind : Kind) (message : List ℕ) (row : RowShape) → least_for m kind ≤ length message → length message ≤ 65535
+pub room_is : (m : Module) (kind : Place) (message : List ℕ) (row : RowShape) → least_for m kind ≤ length message → length message ≤ 65535
     → enabled_row m (side_of kind) (command_of m (side_of kind) message) ≡ Some row
     → length (header_of m (side_of kind) message) + length (text_after m (side_of kind) message) ≤ 65534
 room_is m Host message row least most found =

@@ -13,8 +13,8 @@ use Rattle.hsm_io.specs.Gates.{GateCall, gate_calls}
 use Rattle.hsm_io.specs.Moments.{tick, after_calls}
 use Rattle.hsm_io.specs.Outside.{Rose}
 use Rattle.hsm_rows.specs.declared.settings.Module.{Module}
-use Rattle.hsm_session.specs.declared.plans.Kind.{Kind}
-use Rattle.hsm_session.specs.declared.plans.Kind.TheVariants.{Host}
+use Rattle.hsm_auth.specs.declared.activity.Place.{Place}
+use Rattle.hsm_auth.specs.declared.activity.Place.TheVariants.{Host}
 use Rattle.hsm_session.specs.declared.serving.ConnEnd.{ConnEnd}
 use Rattle.hsm_session.specs.declared.serving.ConnEnd.TheVariants.{Clean, Cut, Short, ReadFault, WriteFault}
 use Rattle.hsm_session.specs.declared.serving.Report.{Report}
@@ -102,7 +102,7 @@ Leaves left WriteFault = Unit {0}
 
 -- What passed over a connection, of which nothing was read or written before: the messages of the bytes read, with their
 -- answers at these entries.
-pub record Talks (m : Module) (kind : Kind) (before after : Traffic) (messages : List (List ℕ)) (entries : List (ℕ × Entry)) (end : ConnEnd) : Type 0 where
+pub record Talks (m : Module) (kind : Place) (before after : Traffic) (messages : List (List ℕ)) (entries : List (ℕ × Entry)) (end : ConnEnd) : Type 0 where
   pub bytes : before.left ≡ after.was_read ++ after.left
   pub hears : Hears (least_for m kind) after.was_read messages end
   pub says : Says after.written (framed_answers m (side_of kind) messages entries) end
@@ -127,7 +127,7 @@ pub record Reports (report : Report) (entries : List (ℕ × Entry)) : Type 0 wh
 -- What serving a connection of the lane of this number did. The pass made one entry for each message, in their order, at the
 -- clock's moments, and the gate was called around each; where the link tells what passed over it, these are the messages of
 -- the bytes read, and what was written are their answers at these entries. A host's messages authorise nothing.
-pub record Serves (m : Module) (kind : Kind) (lane : ℕ) (before after : Scene) (report : Report) : Type 0 where
+pub record Serves (m : Module) (kind : Place) (lane : ℕ) (before after : Scene) (report : Report) : Type 0 where
   pub messages : List (List ℕ)
   pub entries : List (ℕ × Entry)
   pub made : Makes before.pass after.pass entries

@@ -14,8 +14,8 @@ use Rattle.hsm_pincmd.specs.Plans as pin
 use Rattle.hsm_datacmd.specs.Commands.{IsDataRow}
 use Rattle.hsm_datacmd.specs.Plans as held
 use Rattle.hsm_console.specs.Plans as officers
-use Rattle.hsm_session.specs.declared.plans.Kind.{Kind}
-use Rattle.hsm_session.specs.declared.plans.Kind.TheVariants.{Host, Console}
+use Rattle.hsm_auth.specs.declared.activity.Place.{Place}
+use Rattle.hsm_auth.specs.declared.activity.Place.TheVariants.{Host, Console}
 use Rattle.hsm_session.specs.declared.families.Family.{Family}
 use Rattle.hsm_session.specs.declared.families.Family.TheVariants as family
 use Rattle.hsm_session.specs.declared.plans.Planned.{Planned}
@@ -23,7 +23,7 @@ use Rattle.hsm_session.specs.declared.plans.Planned.TheVariants as planned
 use Rattle.hsm_session.specs.declared.plans.Plan.{Plan}
 
 -- the side of the command table that answers
-abbrev pub side_of : Kind → Side
+abbrev pub side_of : Place → Side
 side_of Host = host
 side_of Console = console
 
@@ -32,7 +32,7 @@ abbrev pub least_length : Module → ℕ
 least_length m = m.header + 2
 
 -- the least length of a message: the console's have one byte
-abbrev pub least_for : Module → Kind → ℕ
+abbrev pub least_for : Module → Place → ℕ
 least_for m Host = least_length m
 least_for m Console = 1
 
@@ -63,7 +63,7 @@ abbrev pub plan_message : Plan → List ℕ
 plan_message plan = plan.message.now
 
 -- where the message of a plan comes from
-abbrev pub plan_kind : Plan → Kind
+abbrev pub plan_kind : Plan → Place
 plan_kind plan = plan.kind
 
 -- the ask of a command: nothing for one that is in no row

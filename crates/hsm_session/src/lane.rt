@@ -13,10 +13,10 @@ ghost use Rattle.hsm_session.specs.Booking.{Books, BooksAll, BooksFront, BooksSo
 ghost use Rattle.hsm_session.specs.Runs.{closed_line, end_line, is_cut, is_short, last_line, short_line};
 ghost use Rattle.hsm_session.specs.Lanes.{Drains, FeedsPiece, StopsDraining, StopsPiece, lane_end};
 
-use crate::plans::{Kind, finish, prepare};
+use crate::plans::{finish, prepare};
 use crate::text::{append, append_hex};
 use arrayvec::ArrayVec;
-use hsm_auth::Ledger;
+use hsm_auth::{Ledger, Place};
 use hsm_frame::laws::has_one_reading;
 use hsm_frame::{Frames, Next, frame_into};
 use hsm_io::{OutFailed, Sink, write_all};
@@ -48,7 +48,7 @@ impl Buffers {
         &mut self,
         module: &Module,
         ledger: &mut Ledger,
-        kind: Kind,
+        kind: Place,
         moment: u64,
         message: &[u8],
     )
@@ -96,7 +96,7 @@ impl Buffers {
         ensures failed { OnErr result (Rose (S.faults out.old) (S.faults out.new)) }
         ensures kept { OnOk result (S.faults out.new ≡ S.faults out.old) }
     {
-        self.answer::<0>(module, ledger, Kind::Host, moment, message);
+        self.answer::<0>(module, ledger, Place::Host, moment, message);
         frame_into(self.reply.bytes(), &mut self.frame);
         self.begin_lane_line(number);
         append_hex(&mut self.line, &self.frame);
@@ -126,7 +126,7 @@ impl Buffers {
         ensures failed { OnErr result (Rose (S.faults out.old) (S.faults out.new)) }
         ensures kept { OnOk result (S.faults out.new ≡ S.faults out.old) }
     {
-        self.answer::<0>(module, ledger, Kind::Console, moment, text);
+        self.answer::<0>(module, ledger, Place::Console, moment, text);
         self.line.clear();
         append(&mut self.line, b"C ");
         append(&mut self.line, self.reply.bytes());
