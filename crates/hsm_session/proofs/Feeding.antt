@@ -13,13 +13,13 @@ use Rattle.hsm_rows.specs.declared.settings.Module.{Module}
 use Rattle.hsm_session.specs.Booking.{answer_lines, Books, BooksAll}
 use Rattle.hsm_session.specs.Runs.{piece_text, after_answers, short_line, closed_line}
 use Rattle.hsm_session.specs.Lanes.{Drains, IsBehind, FeedsPiece, end_of, lane_end}
-use Rattle.hsm_session.specs.declared.lane.Lane.{Lane}
+use Rattle.hsm_session.specs.declared.lane.ScriptLane.{ScriptLane}
 use Rattle.hsm_session.specs.declared.lane.Drained.{Drained}
 use Rattle.hsm_session.proofs.Answering.{each_append}
 use Rattle.hsm_session.proofs.BookingLaws.{books_none, books_nothing, books_twice}
 
 -- A part of a piece was fed to an open lane and its messages were booked and answered. The lane is open, and waits.
-pub record Feeds (m : Module) (moment : ℕ) (old new : Lane) (part : List ℕ) (answered : ℕ) (was is : Ledger) (before after : List ℕ → Type 0) : Type 0 where
+pub record Feeds (m : Module) (moment : ℕ) (old new : ScriptLane) (part : List ℕ) (answered : ℕ) (was is : Ledger) (before after : List ℕ → Type 0) : Type 0 where
   pub messages : List (List ℕ)
   pub split : old.frames.bytes ++ part ≡ flat_map frame messages ++ new.frames.bytes
   pub each : AllByRecursion (IsMessage old.frames.least) messages
@@ -29,7 +29,7 @@ pub record Feeds (m : Module) (moment : ℕ) (old new : Lane) (part : List ℕ) 
   pub count : answered ≡ length messages
   pub spent : answered + length new.frames.bytes ≤ length old.frames.bytes + length part
 
-pub feeds_none : (m : Module) (moment : ℕ) (old : Lane) (was : Ledger) (before : List ℕ → Type 0) → Feeds m moment old old [] 0 was was before before
+pub feeds_none : (m : Module) (moment : ℕ) (old : ScriptLane) (was : Ledger) (before : List ℕ → Type 0) → Feeds m moment old old [] 0 was was before before
 feeds_none m moment old was before = record {
   messages = [];
   split = append-nil old.frames.bytes;
@@ -42,7 +42,7 @@ feeds_none m moment old was before = record {
 }
 
 -- one more part
-pub feeds_more : (m : Module) (moment : ℕ) (old mid new : Lane) (part next : List ℕ) (answered : ℕ) (fed left : Held) (was between is : Ledger) (before now after : List ℕ → Type 0) (drained : Drained)
+pub feeds_more : (m : Module) (moment : ℕ) (old mid new : ScriptLane) (part next : List ℕ) (answered : ℕ) (fed left : Held) (was between is : Ledger) (before now after : List ℕ → Type 0) (drained : Drained)
     → Feeds m moment old mid part answered was between before now
     → fed ≡ record { least = mid.frames.least; bytes = mid.frames.bytes ++ next }
     → Drains m mid.number moment fed left between is now after drained
@@ -109,12 +109,12 @@ nothing_after lane [] = refl
 nothing_after lane (byte ∷ held) = refl
 
 -- a lane whose stream these bytes are, by what is held
-pub record IsOpen (lane : Lane) (fed : List ℕ) (messages : List (List ℕ)) : Type 0 where
+pub record IsOpen (lane : ScriptLane) (fed : List ℕ) (messages : List (List ℕ)) : Type 0 where
   pub whole : fed ≡ flat_map frame messages ++ lane.frames.bytes
   pub each : AllByRecursion (IsMessage lane.frames.least) messages
   pub waits : IsNotYet lane.frames.least lane.frames.bytes
 
-pub is_open : (lane : Lane) (fed : List ℕ) (messages : List (List ℕ)) → lane.short ≡ None → IsBehind lane fed messages → IsOpen lane fed messages
+pub is_open : (lane : ScriptLane) (fed : List ℕ) (messages : List (List ℕ)) → lane.short ≡ None → IsBehind lane fed messages → IsOpen lane fed messages
 is_open lane fed messages none b =
     let tail = b.held none in
     record {
@@ -126,7 +126,7 @@ is_open lane fed messages none b =
     }
 
 -- the messages of a stream and those of a part that follows it
-joined : (old mid : Lane) (fed part : List ℕ) (messages more : List (List ℕ)) → fed ≡ flat_map frame messages ++ old.frames.bytes
+joined : (old mid : ScriptLane) (fed part : List ℕ) (messages more : List (List ℕ)) → fed ≡ flat_map frame messages ++ old.frames.bytes
     → old.frames.bytes ++ part ≡ flat_map frame more ++ mid.frames.bytes
     → fed ++ part ≡ flat_map frame (messages ++ more) ++ mid.frames.bytes
 joined old mid fed part messages more whole split =
@@ -137,7 +137,7 @@ joined old mid fed part messages more whole split =
     ∙ ap (λ (front : List ℕ). front ++ mid.frames.bytes) (sym (flat_map-append frame messages more))
 
 -- a whole piece was fed, and the lane is open
-pub feeds_piece : (m : Module) (moment : ℕ) (old new : Lane) (piece : List ℕ) (answered : ℕ) (was is : Ledger) (before after : List ℕ → Type 0)
+pub feeds_piece : (m : Module) (moment : ℕ) (old new : ScriptLane) (piece : List ℕ) (answered : ℕ) (was is : Ledger) (before after : List ℕ → Type 0)
     → old.short ≡ None → new.short ≡ None → Feeds m moment old new piece answered was is before after
     → (IsNotYet old.frames.least old.frames.bytes → IsNotYet old.frames.least new.frames.bytes) → length new.frames.bytes < 65537
     → FeedsPiece m moment old new piece answered was is before after
@@ -168,7 +168,7 @@ feeds_piece m moment old new piece answered was is before after opened stays f w
 }
 
 -- a part of a piece was fed, and then a short frame closed the lane
-pub feeds_short : (m : Module) (moment : ℕ) (old mid new : Lane) (piece part rest : List ℕ) (answered n : ℕ) (was is : Ledger) (before between after : List ℕ → Type 0)
+pub feeds_short : (m : Module) (moment : ℕ) (old mid new : ScriptLane) (piece part rest : List ℕ) (answered n : ℕ) (was is : Ledger) (before between after : List ℕ → Type 0)
     → old.short ≡ None → piece ≡ part ++ rest → Feeds m moment old mid part answered was is before between → IsShort old.frames.least n mid.frames.bytes
     → new.short ≡ Some n → new.number ≡ mid.number → new.frames ≡ record { least = mid.frames.least; bytes = [] } → Appends between after (short_line mid.number n)
     → FeedsPiece m moment old new piece answered was is before after
@@ -206,7 +206,7 @@ feeds_short m moment old mid new piece part rest answered n was is before betwee
     }
 
 -- a piece came after a short frame had closed the lane
-pub feeds_closed : (m : Module) (moment : ℕ) (old : Lane) (piece : List ℕ) (n : ℕ) (was : Ledger) (before after : List ℕ → Type 0)
+pub feeds_closed : (m : Module) (moment : ℕ) (old : ScriptLane) (piece : List ℕ) (n : ℕ) (was : Ledger) (before after : List ℕ → Type 0)
     → old.short ≡ Some n → Appends before after (closed_line old.number) → FeedsPiece m moment old old piece 0 was was before after
 feeds_closed m moment old piece n was before after closed printed = record {
   number = refl;

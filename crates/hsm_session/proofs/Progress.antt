@@ -11,7 +11,7 @@ use Rattle.hsm_auth.specs.declared.entry.Entry.{Entry}
 use Rattle.hsm_auth.specs.declared.ledger.Ledger.{Ledger}
 use Rattle.hsm_auth.specs.History.{IsLegal, StandsFor}
 use Rattle.hsm_rows.specs.declared.settings.Module.{Module}
-use Rattle.hsm_session.specs.declared.lane.Lane.{Lane}
+use Rattle.hsm_session.specs.declared.lane.ScriptLane.{ScriptLane}
 use Rattle.hsm_session.specs.declared.run.Run.{Run}
 use Rattle.hsm_session.specs.declared.script.ScriptEnd.{ScriptEnd}
 use Rattle.hsm_session.specs.Plans.{least_length}
@@ -103,7 +103,7 @@ ends_at m run lines at = record {
   each = λ i end is. of (slice_get run.lanes.items i) i end refl (sym (slice_get-map lane_end run.lanes.items i) ∙ is);
 }
   where
-    of : (found : Option Lane) (i : ℕ) (end : StreamEnd) → slice_get run.lanes.items i ≡ found → option_map lane_end found ≡ Some end
+    of : (found : Option ScriptLane) (i : ℕ) (end : StreamEnd) → slice_get run.lanes.items i ≡ found → option_map lane_end found ≡ Some end
         → (messages : List (List ℕ)) × Frames (least_length m) (got (i + 1) lines) messages end
     of None i end here is = absurd (cc)
     of (Some lane) i end here is =

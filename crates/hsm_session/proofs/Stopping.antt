@@ -11,14 +11,14 @@ use Rattle.hsm_rows.specs.declared.settings.Module.{Module}
 use Rattle.hsm_session.specs.Booking.{answer_lines, entries_of, BooksSome}
 use Rattle.hsm_session.specs.Runs.{piece_text, after_answers, short_line, closed_line}
 use Rattle.hsm_session.specs.Lanes.{AreBytes, StopsDraining, StopsPiece, end_of, lane_end}
-use Rattle.hsm_session.specs.declared.lane.Lane.{Lane}
+use Rattle.hsm_session.specs.declared.lane.ScriptLane.{ScriptLane}
 use Rattle.hsm_session.proofs.Answering.{each_append}
 use Rattle.hsm_session.proofs.BookingLaws.{books_nothing, front_after, front_same, front_text, some_longer, some_more}
 use Rattle.hsm_session.proofs.Feeding.{Feeds, is_open, short_more, text_open}
 use Rattle.hsm_session.proofs.Streams.{bytes_right, frames_after, parts_joined}
 
 -- an answer to a message of a part was not wholly written
-pub stops_part : HasReading → (m : Module) (moment : ℕ) (old mid : Lane) (piece part next rest : List ℕ) (answered : ℕ) (held : Held) (was between is : Ledger) (before now after : List ℕ → Type 0)
+pub stops_part : HasReading → (m : Module) (moment : ℕ) (old mid : ScriptLane) (piece part next rest : List ℕ) (answered : ℕ) (held : Held) (was between is : Ledger) (before now after : List ℕ → Type 0)
     → old.short ≡ None → piece ≡ (part ++ next) ++ rest → Feeds m moment old mid part answered was between before now
     → held ≡ record { least = mid.frames.least; bytes = mid.frames.bytes ++ next }
     → StopsDraining m mid.number moment held between is now after
@@ -60,7 +60,7 @@ stops_part read m moment old mid piece part next rest answered held was between 
     )
 
 -- that a short frame closed the lane was not wholly written
-pub stops_short : (m : Module) (moment : ℕ) (old mid : Lane) (piece part rest : List ℕ) (answered n : ℕ) (was is : Ledger) (before between after : List ℕ → Type 0)
+pub stops_short : (m : Module) (moment : ℕ) (old mid : ScriptLane) (piece part rest : List ℕ) (answered n : ℕ) (was is : Ledger) (before between after : List ℕ → Type 0)
     → old.short ≡ None → piece ≡ part ++ rest → Feeds m moment old mid part answered was is before between → IsShort old.frames.least n mid.frames.bytes
     → AppendsFront between after (short_line mid.number n)
     → StopsPiece m moment old piece was is before after
@@ -89,7 +89,7 @@ stops_short m moment old mid piece part rest answered n was is before between af
     )
 
 -- that a lane is closed was not wholly written
-pub stops_closed : (m : Module) (moment : ℕ) (old : Lane) (piece : List ℕ) (n : ℕ) (was : Ledger) (before after : List ℕ → Type 0)
+pub stops_closed : (m : Module) (moment : ℕ) (old : ScriptLane) (piece : List ℕ) (n : ℕ) (was : Ledger) (before after : List ℕ → Type 0)
     → old.short ≡ Some n → AppendsFront before after (closed_line old.number) → StopsPiece m moment old piece was was before after
 stops_closed m moment old piece n was before after closed printed = λ fed messages bytes b.
     let k = old.number in

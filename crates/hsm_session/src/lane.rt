@@ -199,7 +199,7 @@ struct Drained {
 
 /// A host lane: its number, and what its stream holds.
 #[derive(Drop)]
-pub struct Lane {
+pub struct ScriptLane {
     number: u32,
     frames: Frames,
     // The length of the frame that closed the lane, where one did.
@@ -248,12 +248,12 @@ fn answer_held<S: Sink>(
     }
 }
 
-impl Lane {
+impl ScriptLane {
     /// The lane of this number, of which nothing came yet.
-    pub fn new(number: u32, frames: Frames) -> Lane
+    pub fn new(number: u32, frames: Frames) -> ScriptLane
         ensures { result ≡ record { number = number; frames = frames; short = None } }
     {
-        Lane {
+        ScriptLane {
             number,
             frames,
             short: None,
