@@ -16,7 +16,7 @@ use Rattle.hsm_session.specs.Scripts.{Said, Nothing, Moment, Piece}
 use Rattle.hsm_session.specs.Scripts as said
 use Rattle.hsm_session.specs.Booking.{Books, BooksAll, BooksFront, BooksSome, entries_of}
 use Rattle.hsm_session.specs.declared.script.ScriptEnd.{ScriptEnd}
-use Rattle.hsm_session.specs.Runs.{Tells, end_lines, got, is_cut, is_short, last_line, moment_at, piece_text}
+use Rattle.hsm_session.specs.Runs.{IsRunOfLine, end_lines, got, is_cut, is_short, last_line, moment_at, piece_text}
 
 -- how a stream ends, of which these bytes are held, or which a short frame closed
 abbrev pub end_of : Option ℕ → List ℕ → StreamEnd
@@ -119,7 +119,7 @@ pub record TakesLine (m : Module) (old new : Run) (line : Said) (was is : Ledger
   pub spent : new.entries + all_held new.lanes.items ≤ old.entries + all_held old.lanes.items + weight line
   pub answers : (earlier : List Said) → IsAt m old earlier
       → IsAt m new (earlier ++ line ∷ []) × ((h : List Entry) → StandsFor was h
-      → (more : List Entry) × (text : List ℕ) × Tells m h earlier line more text × Books h more text is before after × (new.entries ≡ old.entries + length more))
+      → (more : List Entry) × (text : List ℕ) × IsRunOfLine m h earlier line more text × Books h more text is before after × (new.entries ≡ old.entries + length more))
 
 -- each lane got bytes
 abbrev pub BringBytes : List Said → Type 0
@@ -129,7 +129,7 @@ BringBytes lines = (lane : ℕ) → AreBytes (got lane lines)
 abbrev pub StopsLine : Module → Run → Said → Ledger → Ledger → (List ℕ → Type 0) → (List ℕ → Type 0) → Type 0
 StopsLine m old line was is before after =
     (earlier : List Said) → BringBytes (earlier ++ line ∷ []) → IsAt m old earlier → (h : List Entry) → StandsFor was h
-    → (more : List Entry) × (text : List ℕ) × Tells m h earlier line more text × BooksFront h more text is before after
+    → (more : List Entry) × (text : List ℕ) × IsRunOfLine m h earlier line more text × BooksFront h more text is before after
 
 -- what is printed when the lines are over
 abbrev pub run_end : Run → List ℕ
