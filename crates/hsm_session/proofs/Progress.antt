@@ -17,7 +17,7 @@ use Rattle.hsm_session.specs.declared.script.ScriptEnd.{ScriptEnd}
 use Rattle.hsm_session.specs.Plans.{least_length}
 use Rattle.hsm_session.specs.Scripts.{Said}
 use Rattle.hsm_auth.specs.History.{IsKnown}
-use Rattle.hsm_session.specs.Runs.{AreEnds, IsRunOfLines, Runs, IsStoppedRun, end_lines, got, is_cut, is_short, last_line}
+use Rattle.hsm_session.specs.Runs.{AreEnds, IsRunOfLines, IsFinishedRun, IsStoppedRun, end_lines, got, is_cut, is_short, last_line}
 use Rattle.hsm_session.specs.Lanes.{BringBytes, Ends, IsAt, StopsLine, TakesLine, lane_end, run_end}
 use Rattle.hsm_session.proofs.Existence.{ends_exist, first_bring, prints_exist}
 use Rattle.hsm_session.proofs.Running.{framed}
@@ -117,7 +117,7 @@ ends_at m run lines at = record {
 -- no line is left
 pub so_far_done : (m : Module) (lines : List Said) (run : Run) (over : ScriptEnd) (was is : Ledger) (before mid after : List ℕ → Type 0)
     → SoFar m lines [] run was is before mid → Ends run over mid after
-    → (h : List Entry) → StandsFor was h → Runs m h lines over is before after
+    → (h : List Entry) → StandsFor was h → IsFinishedRun m h lines over is before after
 so_far_done m lines run over was is before mid after s ends h stands =
     let w = s.written h stands in
     let all : s.earlier ≡ lines = sym (append-nil s.earlier) ∙ s.all in

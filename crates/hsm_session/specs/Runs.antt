@@ -132,7 +132,7 @@ pub record IsRunOf (m : Module) (h : List Entry) (lines : List Said) (last : Lis
   pub short : over.short ≡ count_by is_short ends
 
 -- What a run came to after the history h: one history that begins with it, which is legal where h is, and the text that was written.
-pub record Runs (m : Module) (h : List Entry) (lines : List Said) (over : ScriptEnd) (ledger : Ledger) (before after : List ℕ → Type 0) : Type 0 where
+pub record IsFinishedRun (m : Module) (h : List Entry) (lines : List Said) (over : ScriptEnd) (ledger : Ledger) (before after : List ℕ → Type 0) : Type 0 where
   pub last : List Entry
   pub text : List ℕ
   pub told : IsRunOf m h lines last text over
@@ -157,7 +157,7 @@ pub record IsStoppedRun (m : Module) (h : List Entry) (lines : List Said) (ledge
 -- Each answer of a run, where it comes, what was booked and what was written then. Want of memory is free.
 abbrev pub RunAnswers : Module → Result (List Said) ℕ → Ledger → Ledger → (List ℕ → Type 0) → (List ℕ → Type 0) → Result ScriptEnd ScriptFault → Type 0
 RunAnswers m read old new before after (Ok over) =
-    (lines : List Said) × (read ≡ Ok lines) × ((h : List Entry) → StandsFor old h → Runs m h lines over new before after)
+    (lines : List Said) × (read ≡ Ok lines) × ((h : List Entry) → StandsFor old h → IsFinishedRun m h lines over new before after)
 RunAnswers m read old new before after (Err (Line n)) = (read ≡ Err n) × (new ≡ old) × Stays before after
 RunAnswers m read old new before after (Err Memory) = (new ≡ old) × Stays before after
 RunAnswers m read old new before after (Err Out) =
