@@ -10,7 +10,7 @@ use Rattle.hsm_io.proofs.TextLemmas.{appends_twice}
 use Rattle.hsm_auth.specs.declared.entry.Entry.{Entry}
 use Rattle.hsm_auth.specs.declared.ledger.Ledger.{Ledger}
 use Rattle.hsm_rows.specs.declared.settings.Module.{Module}
-use Rattle.hsm_session.specs.Booking.{answer_lines, Books, BooksAll}
+use Rattle.hsm_session.specs.Booking.{answer_lines, IsBooked, BooksAll}
 use Rattle.hsm_session.specs.Runs.{piece_text, after_answers, short_line, closed_line}
 use Rattle.hsm_session.specs.Lanes.{Drains, IsBehind, FeedsPiece, end_of, lane_end}
 use Rattle.hsm_session.specs.declared.lane.ScriptLane.{ScriptLane}
@@ -94,7 +94,7 @@ text_open m lane moment h (byte ∷ held) messages after = refl
 
 -- booked messages, and what more is printed after them
 books_text : (h more : List Entry) (text next whole : List ℕ) (ledger : Ledger) (before between after : List ℕ → Type 0)
-    → Books h more text ledger before between → Appends between after next → text ++ next ≡ whole → Books h more whole ledger before after
+    → IsBooked h more text ledger before between → Appends between after next → text ++ next ≡ whole → IsBooked h more whole ledger before after
 books_text h more text next whole ledger before between after b printed is = record {
   stands = b.stands;
   legal = b.legal;

@@ -14,7 +14,7 @@ use Rattle.hsm_session.specs.declared.lane.ScriptLane.{ScriptLane}
 use Rattle.hsm_session.specs.declared.run.Run.{Run}
 use Rattle.hsm_session.specs.Plans.{least_length}
 use Rattle.hsm_session.specs.Scripts.{Said, Nothing, Moment, Piece, Console}
-use Rattle.hsm_session.specs.Booking.{Books, BooksFront, console_line, entries_of, entry_of, reply_of}
+use Rattle.hsm_session.specs.Booking.{IsBooked, BooksFront, console_line, entries_of, entry_of, reply_of}
 use Rattle.hsm_session.specs.Runs.{brought, got, moment_after, moment_at, piece_text}
 use Rattle.hsm_session.specs.Lanes.{AreBytes, FeedsPiece, IsAt, IsBehind, IsLaneAt, StopsLine, StopsPiece, TakesLine, all_held, lane_end}
 use Rattle.hsm_session.proofs.BookingLaws.{books_nothing, length-entries}
@@ -70,7 +70,7 @@ takes_moment m old new moment was before same set_to kept = record {
 pub takes_console : (m : Module) (old new : Run) (text : List ℕ) (was is : Ledger) (before after : List ℕ → Type 0)
     → new.lanes.items ≡ old.lanes.items → new.moment ≡ old.moment → new.entries ≡ old.entries + 1
     → ((h : List Entry) → StandsFor was h
-    → Books h (entry_of m console old.moment h text ∷ []) (console_line (reply_of m console old.moment h text)) is before after)
+    → IsBooked h (entry_of m console old.moment h text ∷ []) (console_line (reply_of m console old.moment h text)) is before after)
     → TakesLine m old new (Console text) was is before after
 takes_console m old new text was is before after same moment one books = record {
   spent = omega (arith, one, ap all_held same);
@@ -80,7 +80,7 @@ takes_console m old new text was is before after same moment one books = record 
       entry_of m console (moment_at earlier) h text ∷ [],
       console_line (reply_of m console (moment_at earlier) h text),
       (refl, refl),
-      subst (λ (now : ℕ). Books h (entry_of m console now h text ∷ []) (console_line (reply_of m console now h text)) is before after) at.moment (books h stands),
+      subst (λ (now : ℕ). IsBooked h (entry_of m console now h text ∷ []) (console_line (reply_of m console now h text)) is before after) at.moment (books h stands),
       one,
     ),
   );
@@ -144,9 +144,9 @@ takes_piece m old new lane fed place piece answered was is before after here fee
                 let now = moment_at earlier in
                 let text = λ (n t : ℕ). piece_text m n t h (lane_end lane) f.0 (lane_end fed) in
                 let books = f.3 h stands in
-                let books_there : Books h (entries_of m now h f.0) (text (place + 1) now) is before after =
-                subst (λ (n : ℕ). Books h (entries_of m now h f.0) (text n now) is before after) lane_at.number
-                (subst (λ (t : ℕ). Books h (entries_of m t h f.0) (text lane.number t) is before after) at.moment books) in (
+                let books_there : IsBooked h (entries_of m now h f.0) (text (place + 1) now) is before after =
+                subst (λ (n : ℕ). IsBooked h (entries_of m now h f.0) (text n now) is before after) lane_at.number
+                (subst (λ (t : ℕ). IsBooked h (entries_of m t h f.0) (text lane.number t) is before after) at.moment books) in (
                   entries_of m now h f.0,
                   text (place + 1) now,
                   (

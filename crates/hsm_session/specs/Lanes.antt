@@ -14,7 +14,7 @@ use Rattle.hsm_session.specs.declared.run.Run.{Run}
 use Rattle.hsm_session.specs.Plans.{least_length}
 use Rattle.hsm_session.specs.Scripts.{Said, Nothing, Moment, Piece}
 use Rattle.hsm_session.specs.Scripts as said
-use Rattle.hsm_session.specs.Booking.{Books, BooksAll, BooksFront, BooksSome, entries_of}
+use Rattle.hsm_session.specs.Booking.{IsBooked, BooksAll, BooksFront, BooksSome, entries_of}
 use Rattle.hsm_session.specs.declared.script.ScriptEnd.{ScriptEnd}
 use Rattle.hsm_session.specs.Runs.{IsRunOfLine, end_lines, got, is_cut, is_short, last_line, moment_at, piece_text}
 
@@ -61,7 +61,7 @@ pub record FeedsPiece (m : Module) (moment : ℕ) (old new : ScriptLane) (piece 
   pub answers : (fed : List ℕ) (messages : List (List ℕ)) → IsBehind old fed messages
       → (more : List (List ℕ)) × IsBehind new (fed ++ piece) (messages ++ more) × (answered ≡ length more)
       × ((h : List Entry) → StandsFor was h
-      → Books h (entries_of m moment h more) (piece_text m old.number moment h (lane_end old) more (lane_end new)) is before after)
+      → IsBooked h (entries_of m moment h more) (piece_text m old.number moment h (lane_end old) more (lane_end new)) is before after)
 
 -- Answering the messages held, until a write failed: some of them were booked at the moment, from the front, and a part from
 -- the front of their answers was printed.
@@ -119,7 +119,7 @@ pub record TakesLine (m : Module) (old new : Run) (line : Said) (was is : Ledger
   pub spent : new.entries + all_held new.lanes.items ≤ old.entries + all_held old.lanes.items + weight line
   pub answers : (earlier : List Said) → IsAt m old earlier
       → IsAt m new (earlier ++ line ∷ []) × ((h : List Entry) → StandsFor was h
-      → (more : List Entry) × (text : List ℕ) × IsRunOfLine m h earlier line more text × Books h more text is before after × (new.entries ≡ old.entries + length more))
+      → (more : List Entry) × (text : List ℕ) × IsRunOfLine m h earlier line more text × IsBooked h more text is before after × (new.entries ≡ old.entries + length more))
 
 -- each lane got bytes
 abbrev pub BringBytes : List Said → Type 0

@@ -9,7 +9,7 @@ ghost use Rattle.hsm_io.specs.Outside.{Rose};
 ghost use Rattle.hsm_io.specs.Texts.{Appends, AppendsFront};
 ghost use Rattle.hsm_session.specs.Plans.{least_for, least_length, side_of};
 ghost use Rattle.hsm_auth.specs.History.{IsKnown};
-ghost use Rattle.hsm_session.specs.Booking.{Books, BooksAll, BooksFront, BooksSome, IsAnswered, console_line, entry_of, lane_words, reply_line, reply_of};
+ghost use Rattle.hsm_session.specs.Booking.{IsBooked, BooksAll, BooksFront, BooksSome, IsAnswered, console_line, entry_of, lane_words, reply_line, reply_of};
 ghost use Rattle.hsm_session.specs.Runs.{closed_line, end_line, is_cut, is_short, last_line, short_line};
 ghost use Rattle.hsm_session.specs.Lanes.{Drains, FeedsPiece, StopsDraining, StopsPiece, lane_end};
 
@@ -118,7 +118,7 @@ impl Buffers {
         requires least { 1 ≤ length text.now }
         requires most { length text.now ≤ 65535 }
         ensures booked { OnOk result ((h : List Entry) → StandsFor ledger.old h →
-            Books h (entry_of «module».now console moment h text.now ∷ []) (console_line (reply_of «module».now console moment h text.now))
+            IsBooked h (entry_of «module».now console moment h text.now ∷ []) (console_line (reply_of «module».now console moment h text.now))
             ledger.new (S.stands_for out.old) (S.stands_for out.new)) }
         ensures part { OnErr result ((h : List Entry) → StandsFor ledger.old h →
             BooksFront h (entry_of «module».now console moment h text.now ∷ []) (console_line (reply_of «module».now console moment h text.now))
