@@ -25,7 +25,7 @@ use Rattle.hsm_session.specs.declared.serving.Count.{Count}
 use Rattle.hsm_session.specs.Connections.{Hears, IsEntryFor, Leaves, Says, Scene, framed_answers, scene}
 use Rattle.hsm_session.specs.Lanes.{AreBytes, IsWaiting}
 use Rattle.hsm_session.specs.Plans.{least_for, side_of}
-use Rattle.hsm_session.specs.Serving.{Going, Holding, Over, Sends, SendsFront, Steps, holding, no_entry, one_more}
+use Rattle.hsm_session.specs.Serving.{IsServing, Holding, EndsServing, Sends, SendsFront, Steps, holding, no_entry, one_more}
 use Rattle.hsm_session.proofs.Answering.{each_more}
 use Rattle.hsm_session.proofs.Gating.{gate_more, gate_none}
 use Rattle.hsm_session.proofs.Makings.{WordsAuthorise, booked_entry, clock_more, clock_none, counts_more, counts_none, hosts_more, hosts_none, makes_more, makes_none, zip_push}
@@ -97,7 +97,7 @@ answers_push m side (first ∷ messages) (e ∷ entries) message placed all =
     ∙ sym (append_assoc (frame (message_answer m side first e.1.granted)) (framed_answers m side messages entries) (frame (message_answer m side message placed.1.granted)))
 
 -- nothing was done yet
-going_starts : (m : Module) (kind : Place) (lane : ℕ) (s : Scene) → Sound s.pass → Going m kind lane s s (holding [] [] no_entry)
+going_starts : (m : Module) (kind : Place) (lane : ℕ) (s : Scene) → Sound s.pass → IsServing m kind lane s s (holding [] [] no_entry)
 going_starts m kind lane s sound = record {
   messages = [];
   entries = [];
@@ -113,11 +113,11 @@ going_starts m kind lane s sound = record {
 }
 
 pub starts_at : (m : Module) (kind : Place) (lane : ℕ) (s : Scene) (held out : List ℕ) (count : Count)
-    → held ≡ [] → out ≡ [] → count ≡ no_entry → Sound s.pass → Going m kind lane s s (holding held out count)
+    → held ≡ [] → out ≡ [] → count ≡ no_entry → Sound s.pass → IsServing m kind lane s s (holding held out count)
 starts_at m kind lane s held out count unheard unsaid none sound =
-    subst (λ (z : List ℕ). Going m kind lane s s (holding z out count)) (sym unheard)
-    (subst (λ (z : List ℕ). Going m kind lane s s (holding [] z count)) (sym unsaid)
-    (subst (λ (z : Count). Going m kind lane s s (holding [] [] z)) (sym none) (going_starts m kind lane s sound)))
+    subst (λ (z : List ℕ). IsServing m kind lane s s (holding z out count)) (sym unheard)
+    (subst (λ (z : List ℕ). IsServing m kind lane s s (holding [] z count)) (sym unsaid)
+    (subst (λ (z : Count). IsServing m kind lane s s (holding [] [] z)) (sym none) (going_starts m kind lane s sound)))
 
 pub waits_at_start : (least : ℕ) (held : List ℕ) → held ≡ [] → IsWaiting least held
 waits_at_start least held none = record {
@@ -134,8 +134,8 @@ pub going_books : (m : Module) (kind : Place) (lane : ℕ) (start old new : Scen
     → ((c : List gates.GateCall) → old.calls ≡ Some c → between ≡ Some (c ++ gates.before lane count.messages ∷ []))
     → ((c : List gates.GateCall) → between ≡ Some c → new.calls ≡ Some (c ++ gates.after lane count.messages ∷ []))
     → new.traffic ≡ old.traffic
-    → Going m kind lane start old (holding (frame message ++ rest) out count)
-    → Going m kind lane start new (holding rest (out ++ frame reply) (one_more count place))
+    → IsServing m kind lane start old (holding (frame message ++ rest) out count)
+    → IsServing m kind lane start new (holding rest (out ++ frame reply) (one_more count place))
 going_books m kind lane start old new between message rest out reply count ask granted place words valid asked answered books own sound ticks first second same g =
     let placed : ℕ × Entry = booked_entry old.pass new.last ask granted place in
     record {
@@ -165,7 +165,7 @@ at_traffic s traffic = scene s.pass s.last s.moments s.calls traffic
 -- a part of what is gathered is written
 pub going_sends : (m : Module) (kind : Place) (lane : ℕ) (start now : Scene) (traffic : Option Traffic) (held out rest : List ℕ) (count : Count)
     → Sends now.traffic traffic out rest
-    → Going m kind lane start now (holding held out count) → Going m kind lane start (at_traffic now traffic) (holding held rest count)
+    → IsServing m kind lane start now (holding held out count) → IsServing m kind lane start (at_traffic now traffic) (holding held rest count)
 going_sends m kind lane start now traffic held out rest count sends g = record {
   messages = g.messages;
   entries = g.entries;
@@ -192,13 +192,13 @@ going_sends m kind lane start now traffic held out rest count sends g = record {
 
 -- the same bytes by another name
 pub going_at : (m : Module) (kind : Place) (lane : ℕ) (start now : Scene) (held same out : List ℕ) (count : Count) → held ≡ same
-    → Going m kind lane start now (holding held out count) → Going m kind lane start now (holding same out count)
-going_at m kind lane start now held same out count is g = subst (λ (bytes : List ℕ). Going m kind lane start now (holding bytes out count)) is g
+    → IsServing m kind lane start now (holding held out count) → IsServing m kind lane start now (holding same out count)
+going_at m kind lane start now held same out count is g = subst (λ (bytes : List ℕ). IsServing m kind lane start now (holding bytes out count)) is g
 
 -- the reply that was gathered last is written in part, or not
 pub going_gathers : (m : Module) (kind : Place) (lane : ℕ) (start now : Scene) (traffic : Option Traffic) (held out rest reply shown : List ℕ) (count : Count)
     → shown ≡ reply → Sends now.traffic traffic (out ++ frame shown) rest
-    → Going m kind lane start now (holding held (out ++ frame reply) count) → Going m kind lane start (at_traffic now traffic) (holding held rest count)
+    → IsServing m kind lane start now (holding held (out ++ frame reply) count) → IsServing m kind lane start (at_traffic now traffic) (holding held rest count)
 going_gathers m kind lane start now traffic held out rest reply shown count same sends g =
     going_sends m kind lane start now traffic held (out ++ frame reply) rest count
     (subst (λ (text : List ℕ). Sends now.traffic traffic (out ++ frame text) rest) same sends) g
@@ -206,7 +206,7 @@ going_gathers m kind lane start now traffic held out rest reply shown count same
 -- a piece is read
 pub going_reads : (m : Module) (kind : Place) (lane : ℕ) (start now : Scene) (traffic : Option Traffic) (held out piece : List ℕ) (count : Count) → AreBytes piece
     → ((s : Traffic) → now.traffic ≡ Some s → (t : Traffic) × (traffic ≡ Some t) × Exchanges s t piece [])
-    → Going m kind lane start now (holding held out count) → Going m kind lane start (at_traffic now traffic) (holding (held ++ piece) out count)
+    → IsServing m kind lane start now (holding held out count) → IsServing m kind lane start (at_traffic now traffic) (holding (held ++ piece) out count)
 going_reads m kind lane start now traffic held out piece count are reads g = record {
   messages = g.messages;
   entries = g.entries;
@@ -253,7 +253,7 @@ record Closes (least : ℕ) (traffic : Option Traffic) (held out : List ℕ) (en
   leaves : (t : Traffic) → traffic ≡ Some t → Leaves t.left ended
 
 over : (m : Module) (kind : Place) (lane : ℕ) (start now : Scene) (held out : List ℕ) (count : Count) (ended : ConnEnd) → Closes (least_for m kind) now.traffic held out ended
-    → IsSilent start.traffic → Going m kind lane start now (holding held out count) → Over m kind lane start now count ended
+    → IsSilent start.traffic → IsServing m kind lane start now (holding held out count) → EndsServing m kind lane start now count ended
 over m kind lane start now held out count ended closes silent g = record {
   messages = g.messages;
   entries = g.entries;
@@ -287,7 +287,7 @@ tail_ends least heard held messages end tail valid whole = record { tail = held;
 
 -- the input ended behind a whole frame
 pub over_clean : (m : Module) (kind : Place) (lane : ℕ) (start now : Scene) (count : Count) → ((t : Traffic) → now.traffic ≡ Some t → t.left ≡ [])
-    → IsSilent start.traffic → Going m kind lane start now (holding [] [] count) → Over m kind lane start now count Clean
+    → IsSilent start.traffic → IsServing m kind lane start now (holding [] [] count) → EndsServing m kind lane start now count Clean
 over_clean m kind lane start now count left = over m kind lane start now [] [] count Clean (record {
   hears = λ heard messages are valid whole. tail_ends (least_for m kind) heard [] messages Whole refl valid whole;
   says = all_said;
@@ -301,7 +301,7 @@ part_of least (byte ∷ held) some waits = waits
 -- the input ended within a frame
 pub over_cut : (m : Module) (kind : Place) (lane : ℕ) (start now : Scene) (held : List ℕ) (count : Count) → 0 < length held → IsNotYet (least_for m kind) held
     → ((t : Traffic) → now.traffic ≡ Some t → t.left ≡ [])
-    → IsSilent start.traffic → Going m kind lane start now (holding held [] count) → Over m kind lane start now count Cut
+    → IsSilent start.traffic → IsServing m kind lane start now (holding held [] count) → EndsServing m kind lane start now count Cut
 over_cut m kind lane start now held count some waits left = over m kind lane start now held [] count Cut (record {
   hears = λ heard messages are valid whole. tail_ends (least_for m kind) heard held messages Part (part_of (least_for m kind) held some waits) valid whole;
   says = all_said;
@@ -310,7 +310,7 @@ over_cut m kind lane start now held count some waits left = over m kind lane sta
 
 -- a short frame came
 pub over_short : (m : Module) (kind : Place) (lane : ℕ) (start now : Scene) (held : List ℕ) (count : Count) (n : ℕ) → IsShort (least_for m kind) n held
-    → IsSilent start.traffic → Going m kind lane start now (holding held [] count) → Over m kind lane start now count (Short n)
+    → IsSilent start.traffic → IsServing m kind lane start now (holding held [] count) → EndsServing m kind lane start now count (Short n)
 over_short m kind lane start now held count n short = over m kind lane start now held [] count (Short n) (record {
   hears = λ heard messages are valid whole. tail_ends (least_for m kind) heard held messages (stream.Short n) short valid whole;
   says = all_said;
@@ -324,7 +324,7 @@ hears_fault least heard (byte ∷ held) messages waits valid whole = inr (tail_e
 
 -- a read failed
 pub over_read_fault : (m : Module) (kind : Place) (lane : ℕ) (start now : Scene) (held : List ℕ) (count : Count) → IsNotYet (least_for m kind) held
-    → IsSilent start.traffic → Going m kind lane start now (holding held [] count) → Over m kind lane start now count ReadFault
+    → IsSilent start.traffic → IsServing m kind lane start now (holding held [] count) → EndsServing m kind lane start now count ReadFault
 over_read_fault m kind lane start now held count waits = over m kind lane start now held [] count ReadFault (record {
   hears = λ heard messages are valid whole. hears_fault (least_for m kind) heard held messages waits valid whole;
   says = all_said;
@@ -333,7 +333,7 @@ over_read_fault m kind lane start now held count waits = over m kind lane start 
 
 -- a write failed
 pub over_write_fault : HasReading → (m : Module) (kind : Place) (lane : ℕ) (start now : Scene) (held out : List ℕ) (count : Count)
-    → IsSilent start.traffic → Going m kind lane start now (holding held out count) → Over m kind lane start now count WriteFault
+    → IsSilent start.traffic → IsServing m kind lane start now (holding held out count) → EndsServing m kind lane start now count WriteFault
 over_write_fault reading m kind lane start now held out count = over m kind lane start now held out count WriteFault (record {
   hears = λ heard messages are valid whole.
       let r = reading (least_for m kind) held are in
@@ -344,7 +344,7 @@ over_write_fault reading m kind lane start now held out count = over m kind lane
 
 -- what was done before a part of the work
 pub steps_after : (m : Module) (kind : Place) (lane : ℕ) (old mid new : Scene) (first fed last : Holding) (ended : Option ConnEnd)
-    → ((start : Scene) → Going m kind lane start old first → Going m kind lane start mid fed)
+    → ((start : Scene) → IsServing m kind lane start old first → IsServing m kind lane start mid fed)
     → Steps m kind lane mid new fed last ended → Steps m kind lane old new first last ended
 steps_after m kind lane old mid new first fed last None earlier s = (s.0, λ start g. s.1 start (earlier start g))
 steps_after m kind lane old mid new first fed last (Some end) earlier s = λ start silent g. s start silent (earlier start g)

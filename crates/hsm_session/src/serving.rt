@@ -6,7 +6,7 @@ ghost use Rattle.hsm_io.specs.Connections.{IsSilent, Traffic};
 ghost use Rattle.hsm_session.specs.Connections.{EndCause, Scene, Serves, scene};
 ghost use Rattle.hsm_session.specs.Lanes.{AreBytes, IsWaiting};
 ghost use Rattle.hsm_session.specs.Plans.{least_for};
-ghost use Rattle.hsm_session.specs.Serving.{Going, StepCause, Steps, holding, no_entry, one_more};
+ghost use Rattle.hsm_session.specs.Serving.{IsServing, StepCause, Steps, holding, no_entry, one_more};
 
 use crate::plans::{finish, prepare};
 use crate::replies::{gather, send};
@@ -129,9 +129,9 @@ fn book_message<R: Wait, C: Clock, G: Gate, const N: usize>(
     ensures desk { pass.new.desk ≡ pass.old.desk }
     ensures counted { count.new.messages ≤ length pass.new.seen }
     ensures booked { (start : Scene) (traffic : Option Traffic) (rest out : List ℕ)
-        → Going «module».now kind lane start (scene pass.old (C.last clock.old) (C.to_come clock.old) (G.calls gate.old) traffic)
+        → IsServing «module».now kind lane start (scene pass.old (C.last clock.old) (C.to_come clock.old) (G.calls gate.old) traffic)
         (holding (frame message.now ++ rest) out count.old)
-        → Going «module».now kind lane start (scene pass.new (C.last clock.new) (C.to_come clock.new) (G.calls gate.new) traffic)
+        → IsServing «module».now kind lane start (scene pass.new (C.last clock.new) (C.to_come clock.new) (G.calls gate.new) traffic)
         (holding rest (out ++ frame reply.new) count.new) }
 {
     words_authorise();
