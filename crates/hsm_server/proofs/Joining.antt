@@ -7,7 +7,7 @@ use Rattle.hsm_auth.specs.Own.{own}
 use Rattle.hsm_desk.specs.Kin.{Spans, first_pair}
 use Rattle.hsm_desk.specs.Passes.{PassView, Makes, Sound, number}
 use Rattle.hsm_io.specs.Moments.{tick, after_now, after_calls}
-use Rattle.hsm_session.specs.Connections.{AskClock, AuthoriseNothing, HaveMoments, last_moment, is_authorise}
+use Rattle.hsm_session.specs.Connections.{AskClock, AuthoriseNothing, HaveMoments, last_moment, asks_authorisation}
 
 -- no entry was made yet
 pub makes_none : (p : PassView) → Sound p → Makes p p []
@@ -88,7 +88,7 @@ clock_both start last now before between after xs ys a b = record {
 }
 
 pub nothing_both : (xs ys : List (ℕ × Entry)) → AuthoriseNothing xs → AuthoriseNothing ys
-    → (i : ℕ) (placed : ℕ × Entry) → slice_get (xs ++ ys) i ≡ Some placed → is_authorise placed.1.ask ≡ false
+    → (i : ℕ) (placed : ℕ × Entry) → slice_get (xs ++ ys) i ≡ Some placed → asks_authorisation placed.1.ask ≡ false
 nothing_both [] ys a b i placed at = b i placed at
 nothing_both (x ∷ xs) ys a b zero placed at = a zero placed at
 nothing_both (x ∷ xs) ys a b (suc i) placed at = nothing_both xs ys (λ j p there. a (suc j) p there) b i placed at

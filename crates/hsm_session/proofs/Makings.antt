@@ -19,7 +19,7 @@ use Rattle.hsm_rows.specs.declared.settings.Module.{Module}
 use Rattle.hsm_auth.specs.declared.activity.Place.{Place}
 use Rattle.hsm_auth.specs.declared.activity.Place.TheVariants.{Host}
 use Rattle.hsm_session.specs.declared.serving.Count.{Count}
-use Rattle.hsm_session.specs.Connections.{AskClock, AuthoriseNothing, first_place, last_place, last_moment, is_authorise}
+use Rattle.hsm_session.specs.Connections.{AskClock, AuthoriseNothing, first_place, last_place, last_moment, asks_authorisation}
 use Rattle.hsm_session.specs.Plans.{side_of}
 use Rattle.hsm_session.specs.Serving.{Counts, kept_first, one_more, no_entry}
 
@@ -163,7 +163,7 @@ abbrev pub WordsAuthorise : Type 0
 WordsAuthorise = (m : Module) (side : Side) (message : List ℕ) (activity : Activity) (minutes : ℕ)
     → message_ask m side message ≡ Authorise activity minutes → Authorises m side message activity minutes
 
-no_words : (m : Module) (message : List ℕ) → WordsAuthorise → (ask : Ask) → message_ask m host message ≡ ask → is_authorise ask ≡ false
+no_words : (m : Module) (message : List ℕ) → WordsAuthorise → (ask : Ask) → message_ask m host message ≡ ask → asks_authorisation ask ≡ false
 no_words m message words (Use needs drawn) is = refl
 no_words m message words (Authorise activity minutes) is = let a = (words m host message activity minutes is).of_console in absurd (cc)
 no_words m message words (Cancel activity) is = refl
@@ -178,4 +178,4 @@ pub hosts_more : (m : Module) (kind : Place) (message : List ℕ) (entries : Lis
     → placed.1.ask ≡ message_ask m (side_of kind) message → (kind ≡ Host → AuthoriseNothing entries) → kind ≡ Host → AuthoriseNothing (entries ++ placed ∷ [])
 hosts_more m kind message entries placed words asked before is =
     let of_host : message_ask m host message ≡ placed.1.ask = ap (λ (k : Place). message_ask m (side_of k) message) (sym is) ∙ sym asked in
-    get_push (λ i (p : ℕ × Entry). is_authorise p.1.ask ≡ false) entries placed (before is) (no_words m message words placed.1.ask of_host)
+    get_push (λ i (p : ℕ × Entry). asks_authorisation p.1.ask ≡ false) entries placed (before is) (no_words m message words placed.1.ask of_host)

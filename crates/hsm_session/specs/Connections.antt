@@ -44,17 +44,17 @@ framed_answers m side (message ∷ messages) (placed ∷ entries) =
     frame (message_answer m side message placed.1.granted) ++ framed_answers m side messages entries
 
 -- whether an ask is one for an authorisation
-abbrev pub is_authorise : Ask → Bool
-is_authorise (Use needs words) = false
-is_authorise (Authorise activity minutes) = true
-is_authorise (Cancel activity) = false
-is_authorise CancelAll = false
-is_authorise Look = false
-is_authorise Recent = false
+abbrev pub asks_authorisation : Ask → Bool
+asks_authorisation (Use needs words) = false
+asks_authorisation (Authorise activity minutes) = true
+asks_authorisation (Cancel activity) = false
+asks_authorisation CancelAll = false
+asks_authorisation Look = false
+asks_authorisation Recent = false
 
 -- none of the entries asks for an authorisation
 abbrev pub AuthoriseNothing : List (ℕ × Entry) → Type 0
-AuthoriseNothing entries = (i : ℕ) (placed : ℕ × Entry) → slice_get entries i ≡ Some placed → is_authorise placed.1.ask ≡ false
+AuthoriseNothing entries = (i : ℕ) (placed : ℕ × Entry) → slice_get entries i ≡ Some placed → asks_authorisation placed.1.ask ≡ false
 
 -- each of the entries has the moment that the clock was to give at its call
 abbrev pub HaveMoments : List ℕ → List (ℕ × Entry) → Type 0
