@@ -103,7 +103,7 @@ IsOwnPlan m (planned.Data plan) = held.IsPlanOf m plan
 IsOwnPlan m (planned.Console plan) = officers.IsPlanOf m plan
 
 -- the plan of a message: of the row of its command, if there is one, and of what follows the command
-pub record IsPlanned (m : Module) (side : Side) (message : List ℕ) (planned : Planned) : Type 0 where
+pub record IsPlanOfMessage (m : Module) (side : Side) (message : List ℕ) (planned : Planned) : Type 0 where
   pub row : planned_row planned ≡ enabled_row m side (command_of m side message)
   pub text : (row : RowShape) → planned_row planned ≡ Some row → planned_text planned ≡ text_after m side message
   pub own : IsOwnPlan m planned
@@ -112,4 +112,4 @@ pub record IsPlanned (m : Module) (side : Side) (message : List ℕ) (planned : 
 pub record IsPlanOf (m : Module) (plan : Plan) : Type 0 where
   pub least : least_for m (plan_kind plan) ≤ length (plan_message plan)
   pub most : length (plan_message plan) ≤ 65535
-  pub planned : IsPlanned m (side_of (plan_kind plan)) (plan_message plan) plan.planned
+  pub planned : IsPlanOfMessage m (side_of (plan_kind plan)) (plan_message plan) plan.planned

@@ -7,7 +7,7 @@ ghost use Rattle.hsm_auth.specs.History.{CanAsk, Fits};
 ghost use Rattle.hsm_rows.specs.Table.{IsConsoleRow, IsHostRow, shape_of, shown_shape};
 ghost use Rattle.hsm_answers.specs.Asks.{ask_of};
 ghost use Rattle.hsm_answers.specs.Messages.{command_of, console, enabled_row, header_of, host, message_answer, message_ask, text_after, unknown_answer};
-ghost use Rattle.hsm_session.specs.Plans.{IsOwnPlan, IsPlanOf, IsPlanned, least_for, least_length, plan_ask, plan_kind, plan_message, planned_ask, planned_row, planned_text, side_of};
+ghost use Rattle.hsm_session.specs.Plans.{IsOwnPlan, IsPlanOf, IsPlanOfMessage, least_for, least_length, plan_ask, plan_kind, plan_message, planned_ask, planned_row, planned_text, side_of};
 
 use crate::families::{Family, family_of};
 use hsm_answers::empty_ask;
@@ -105,7 +105,7 @@ fn plan_row<'m>(module: &Module, row: &'static Row, text: &'m [u8]) -> Planned<'
 // The plan of a host's message.
 fn plan_host<'m>(module: &Module, message: &'m [u8]) -> Planned<'m>
     requires { least_length «module».now ≤ length message.now }
-    ensures plan { IsPlanned «module».now host message.now result }
+    ensures plan { IsPlanOfMessage «module».now host message.now result }
     ensures ask { planned_ask result ≡ message_ask «module».now host message.now }
     ensures may { CanAsk (planned_ask result) }
 {
@@ -119,7 +119,7 @@ fn plan_host<'m>(module: &Module, message: &'m [u8]) -> Planned<'m>
 
 // The plan of a console's message.
 fn plan_console<'m>(module: &Module, message: &'m [u8]) -> Planned<'m>
-    ensures plan { IsPlanned «module».now console message.now result }
+    ensures plan { IsPlanOfMessage «module».now console message.now result }
     ensures ask { planned_ask result ≡ message_ask «module».now console message.now }
     ensures may { CanAsk (planned_ask result) }
 {
