@@ -10,7 +10,7 @@ use Rattle.hsm_auth.specs.declared.ledger.Ledger.{Ledger}
 use Rattle.hsm_rows.specs.declared.settings.Module.{Module}
 use Rattle.hsm_session.specs.Booking.{answer_lines, entries_of, BooksSome}
 use Rattle.hsm_session.specs.Runs.{piece_text, after_answers, short_line, closed_line}
-use Rattle.hsm_session.specs.Lanes.{AreBytes, StopsDraining, StopsPiece, end_of, lane_end}
+use Rattle.hsm_session.specs.Lanes.{AreBytes, StopsDraining, StopsPiece, stream_end, lane_end}
 use Rattle.hsm_session.specs.declared.lane.ScriptLane.{ScriptLane}
 use Rattle.hsm_session.proofs.Answering.{each_append}
 use Rattle.hsm_session.proofs.BookingLaws.{books_nothing, front_after, front_same, front_text, some_longer, some_more}
@@ -51,7 +51,7 @@ stops_part read m moment old mid piece part next rest answered held was between 
     (subst (λ (n : ℕ). BooksSome m n moment d.messages between is now after) f.number d.booked)) in
     let text : (h : List Entry) → answer_lines m k moment h more ++ after_answers k later.1 ≡ piece_text m k moment h (lane_end old) more later.1 = λ h.
     sym (text_open m k moment h old.frames.bytes more later.1)
-    ∙ ap (λ (s : Option ℕ). piece_text m k moment h (end_of s old.frames.bytes) more later.1) (sym opened) in (
+    ∙ ap (λ (s : Option ℕ). piece_text m k moment h (stream_end s old.frames.bytes) more later.1) (sym opened) in (
       more,
       later.1,
       frames,
@@ -79,7 +79,7 @@ stops_short m moment old mid piece part rest answered n was is before between af
     } in
     let text : (h : List Entry) → answer_lines m k moment h f.messages ++ short_line k n ≡ piece_text m k moment h (lane_end old) f.messages (Short n) = λ h.
     sym (text_open m k moment h old.frames.bytes f.messages (Short n))
-    ∙ ap (λ (s : Option ℕ). piece_text m k moment h (end_of s old.frames.bytes) f.messages (Short n)) (sym opened) in
+    ∙ ap (λ (s : Option ℕ). piece_text m k moment h (stream_end s old.frames.bytes) f.messages (Short n)) (sym opened) in
     let printed_there : AppendsFront between after (short_line k n) = subst (λ (j : ℕ). AppendsFront between after (short_line j n)) f.number printed in (
       f.messages,
       Short n,
@@ -100,10 +100,10 @@ stops_closed m moment old piece n was before after closed printed = λ fed messa
           ap (λ (front : List ℕ). front ++ piece) b.whole ∙ append_assoc (flat_map frame messages) b.tail piece
           ∙ ap (λ (all : List (List ℕ)). flat_map frame all ++ (b.tail ++ piece)) (sym (append-nil messages));
       each = subst (AllByRecursion (IsMessage least)) (sym (append-nil messages)) b.each;
-      ends = short_more least n b.tail piece (subst (λ (s : Option ℕ). IsTail least (end_of s old.frames.bytes) b.tail) closed b.ends);
+      ends = short_more least n b.tail piece (subst (λ (s : Option ℕ). IsTail least (stream_end s old.frames.bytes) b.tail) closed b.ends);
     } in
     let text : (h : List Entry) → closed_line k ≡ piece_text m k moment h (lane_end old) [] (Short n) = λ h.
-    ap (λ (s : Option ℕ). piece_text m k moment h (end_of s old.frames.bytes) [] (Short n)) (sym closed) in (
+    ap (λ (s : Option ℕ). piece_text m k moment h (stream_end s old.frames.bytes) [] (Short n)) (sym closed) in (
       [],
       Short n,
       frames,

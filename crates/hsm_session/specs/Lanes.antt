@@ -19,14 +19,14 @@ use Rattle.hsm_session.specs.declared.script.ScriptEnd.{ScriptEnd}
 use Rattle.hsm_session.specs.Runs.{IsRunOfLine, end_lines, got, is_cut, is_short, last_line, moment_at, piece_text}
 
 -- how a stream ends, of which these bytes are held, or which a short frame closed
-abbrev pub end_of : Option ℕ → List ℕ → StreamEnd
-end_of (Some n) held = Short n
-end_of None [] = Whole
-end_of None (byte ∷ bytes) = Part
+abbrev pub stream_end : Option ℕ → List ℕ → StreamEnd
+stream_end (Some n) held = Short n
+stream_end None [] = Whole
+stream_end None (byte ∷ bytes) = Part
 
 -- how the lane's stream ends
 abbrev pub lane_end : ScriptLane → StreamEnd
-lane_end lane = end_of lane.short lane.frames.bytes
+lane_end lane = stream_end lane.short lane.frames.bytes
 
 -- neither a message nor a short frame stands in front, and there is room for a byte
 pub record IsWaiting (least : ℕ) (held : List ℕ) : Type 0 where
