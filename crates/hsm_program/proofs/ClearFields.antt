@@ -11,7 +11,7 @@ use Rattle.hsm_answers.specs.Clear.{Authorises, IsGrantedAt, ShowsClear}
 use Rattle.hsm_answers.specs.Messages.{Side, console, message_ask}
 use Rattle.hsm_rows.specs.declared.settings.Module.{Module}
 use Rattle.hsm_auth.specs.declared.activity.Place.TheVariants.{Host}
-use Rattle.hsm_session.specs.Connections.{AuthoriseNothing, IsEntryFor, is_authorise}
+use Rattle.hsm_session.specs.Connections.{AuthoriseNothing, IsEntryFor, asks_authorisation}
 use Rattle.hsm_session.specs.Plans.{side_of}
 use Rattle.hsm_server.specs.Lanes.{IsServed, Served, all_entries, kind_of}
 use Rattle.hsm_program.proofs.Lists.{index_at, within}
@@ -104,8 +104,8 @@ ClearWhereGranted = (m : Module) (side : Side) (message : List ℕ) (h : List En
     → IsLegal h → slice_get h i ≡ Some e → e.ask ≡ message_ask m side message
     → (s : ShowsClear m side message e.granted) → IsGrantedAt s.row s.read h i e
 
-is_asked : (ask : Ask) (activity : Activity) (minutes : ℕ) → ask ≡ Authorise activity minutes → is_authorise ask ≡ true
-is_asked ask activity minutes is = ap is_authorise is
+is_asked : (ask : Ask) (activity : Activity) (minutes : ℕ) → ask ≡ Authorise activity minutes → asks_authorisation ask ≡ true
+is_asked ask activity minutes is = ap asks_authorisation is
 
 not_zero : (n : ℕ) → (suc n == 0) ≡ false
 not_zero n = search rules

@@ -20,7 +20,7 @@ use Rattle.hsm_rows.specs.declared.settings.Module.{Module}
 use Rattle.hsm_rows.specs.Reading.{ReadText}
 use Rattle.hsm_rows.specs.Table.{RowShape}
 use Rattle.hsm_server.specs.Lanes.{IsServed, LaneView, Served, all_entries, all_reports, bytes_of, kind_of, message_count}
-use Rattle.hsm_session.specs.Connections.{HaveMoments, Hears, Leaves, Says, framed_answers}
+use Rattle.hsm_session.specs.Connections.{HaveMoments, Hears, Leaves, IsWritten, framed_answers}
 use Rattle.hsm_session.specs.Plans.{least_for, side_of}
 use Rattle.hsm_config.specs.Configs.{ports_of}
 
@@ -55,7 +55,7 @@ pub record IsOneHistory (pass : PassView) : Type 0 where
 -- What was written to a connection are the framed answers to its messages, at their entries; after a failed write a part from their front.
 abbrev pub IsWritten : Module → ℕ → Served → Taken → Type 0
 IsWritten m number served taken =
-    Says taken.traffic.written (framed_answers m (side_of (kind_of number)) served.messages served.entries) served.report.ended
+    IsWritten taken.traffic.written (framed_answers m (side_of (kind_of number)) served.messages served.entries) served.report.ended
 
 -- Each lane: it booked with its own number. The entries of that number are those of its connections' messages, one for each, in their order, with what
 -- the message asks, at the moments that its clock was to give; and each connection was written the answers at these entries.
