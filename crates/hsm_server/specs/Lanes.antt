@@ -56,13 +56,13 @@ lane_state doorway faults broken is_out last to_come calls lane = record {
 }
 
 -- the lane of number 0 is the console's, every other is a host's
-abbrev pub kind_of : ℕ → Place
-kind_of number = if number == 0 then Console else Host
+abbrev pub place_of : ℕ → Place
+place_of number = if number == 0 then Console else Host
 
 -- The least length is that of the lane's side, its pass is of the desk, no connection is out, and the lane was not served
 -- before.
 pub record IsReady (m : Module) (desk : TableId) (lane : LaneState) : Type 0 where
-  pub least : lane.least ≡ least_for m (kind_of lane.number)
+  pub least : lane.least ≡ least_for m (place_of lane.number)
   pub of_desk : lane.pass.desk ≡ desk
   pub none_out : lane.is_out ≡ false
   pub no_report : lane.reports ≡ []
@@ -122,7 +122,7 @@ pub record IsToldBy (m : Module) (kind : Place) (served : Served) (taken : Taken
 
 -- The connections served are the first of those that were to come, in their order, and they were appended to those taken
 -- back. The rest are still to come.
-pub record Tells (m : Module) (kind : Place) (before after : Doorway) (connections : List Served) : Type 0 where
+pub record TakesConnections (m : Module) (kind : Place) (before after : Doorway) (connections : List Served) : Type 0 where
   pub ended : List Taken
   pub taken : after.taken ≡ before.taken ++ ended
   pub came : before.to_come ≡ map bytes_of ended ++ after.to_come
@@ -138,12 +138,12 @@ pub record ServesAll (m : Module) (before after : LaneState) (connections : List
   pub reports : after.reports ≡ before.reports ++ all_reports connections
   pub counted : message_count (all_reports connections) ≡ length (all_entries connections)
   pub made : Makes before.pass after.pass (all_entries connections)
-  pub each : All (IsServed m (kind_of before.number)) connections
+  pub each : All (IsServed m (place_of before.number)) connections
   pub clock : AskClock before.last after.last before.moments after.moments (all_entries connections)
   pub gate : (calls : List GateCall) → before.calls ≡ Some calls → after.calls ≡ Some (calls ++ all_calls before.number connections)
-  pub hosts : kind_of before.number ≡ Host → AuthoriseNothing (all_entries connections)
+  pub hosts : place_of before.number ≡ Host → AuthoriseNothing (all_entries connections)
   pub broken : after.broken ≡ risen before.broken (fault_count (all_reports connections))
-  pub told : (d : Doorway) → before.doorway ≡ Some d → (e : Doorway) × (after.doorway ≡ Some e) × Tells m (kind_of before.number) d e connections
+  pub told : (d : Doorway) → before.doorway ≡ Some d → (e : Doorway) × (after.doorway ≡ Some e) × TakesConnections m (place_of before.number) d e connections
 
 -- What a run leaves of a lane: it served connections until as many as it accepts were served, or the door ended or failed.
 -- The door fails only before the last of them. Without a failure, where the door tells, all that were to come were served,

@@ -3,7 +3,7 @@ ghost use Rattle.std.specs.Prelude.{◌≡◌, All};
 ghost use Rattle.std.specs.Thread.{IsSend, IsSync};
 ghost use Rattle.atomic_table.specs.Seated.{TableId};
 ghost use Rattle.hsm_rows.specs.declared.settings.Module.{Module};
-ghost use Rattle.hsm_server.specs.Lanes.{IsReady, Ran, EachLane, kind_of, lane_state};
+ghost use Rattle.hsm_server.specs.Lanes.{IsReady, Ran, EachLane, place_of, lane_state};
 
 use crate::lane::Lane;
 use hsm_auth::Place;
@@ -27,7 +27,7 @@ trait Work {
 
 /// The side of the lane of this number: 0 is the console's, every other a host's.
 pub fn kind_for(number: u32) -> Place
-    ensures { result ≡ kind_of number }
+    ensures { result ≡ place_of number }
 {
     if number == 0 {
         Place::Console
