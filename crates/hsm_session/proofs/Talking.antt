@@ -22,7 +22,7 @@ use Rattle.hsm_auth.specs.declared.activity.Place.{Place}
 use Rattle.hsm_session.specs.declared.serving.ConnEnd.{ConnEnd}
 use Rattle.hsm_session.specs.declared.serving.ConnEnd.TheVariants.{Clean, Cut, Short, ReadFault, WriteFault}
 use Rattle.hsm_session.specs.declared.serving.Count.{Count}
-use Rattle.hsm_session.specs.Connections.{Hears, IsEntryFor, Leaves, IsWritten, Scene, framed_answers, scene}
+use Rattle.hsm_session.specs.Connections.{Hears, IsEntryFor, Leaves, WritesAnswers, Scene, framed_answers, scene}
 use Rattle.hsm_session.specs.Lanes.{AreBytes, IsWaiting}
 use Rattle.hsm_session.specs.Plans.{least_for, side_of}
 use Rattle.hsm_session.specs.Serving.{IsServing, Holding, EndsServing, Sends, SendsFront, Steps, holding, no_entry, one_more}
@@ -249,7 +249,7 @@ passed m kind s t held out said messages entries unread unsaid e texts =
 -- what a connection's end leaves held, gathered and left to read
 record Closes (least : ℕ) (traffic : Option Traffic) (held out : List ℕ) (ended : ConnEnd) : Type 0 where
   hears : (heard : List ℕ) (messages : List (List ℕ)) → AreBytes held → AllByRecursion (IsMessage least) messages → heard ≡ flat_map frame messages ++ held → Hears least heard messages ended
-  says : (said answers : List ℕ) → answers ≡ said ++ out → IsWritten said answers ended
+  says : (said answers : List ℕ) → answers ≡ said ++ out → WritesAnswers said answers ended
   leaves : (t : Traffic) → traffic ≡ Some t → Leaves t.left ended
 
 over : (m : Module) (kind : Place) (lane : ℕ) (start now : Scene) (held out : List ℕ) (count : Count) (ended : ConnEnd) → Closes (least_for m kind) now.traffic held out ended

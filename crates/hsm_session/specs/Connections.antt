@@ -85,12 +85,12 @@ Hears least heard messages ReadFault = Frames least heard messages Whole ⊎ Fra
 Hears least heard messages WriteFault = (later : List (List ℕ)) × (end : StreamEnd) × Frames least heard (messages ++ later) end
 
 -- All of the answers were written, and where a write failed a part from their front.
-abbrev pub IsWritten : List ℕ → List ℕ → ConnEnd → Type 0
-IsWritten said answers Clean = said ≡ answers
-IsWritten said answers Cut = said ≡ answers
-IsWritten said answers (Short n) = said ≡ answers
-IsWritten said answers ReadFault = said ≡ answers
-IsWritten said answers WriteFault = (rest : List ℕ) × (answers ≡ said ++ rest)
+abbrev pub WritesAnswers : List ℕ → List ℕ → ConnEnd → Type 0
+WritesAnswers said answers Clean = said ≡ answers
+WritesAnswers said answers Cut = said ≡ answers
+WritesAnswers said answers (Short n) = said ≡ answers
+WritesAnswers said answers ReadFault = said ≡ answers
+WritesAnswers said answers WriteFault = (rest : List ℕ) × (answers ≡ said ++ rest)
 
 -- a connection that was read to its end has nothing left to read
 abbrev pub Leaves : List ℕ → ConnEnd → Type 0
@@ -105,7 +105,7 @@ Leaves left WriteFault = Unit {0}
 pub record Talks (m : Module) (kind : Place) (before after : Traffic) (messages : List (List ℕ)) (entries : List (ℕ × Entry)) (end : ConnEnd) : Type 0 where
   pub bytes : before.left ≡ after.was_read ++ after.left
   pub hears : Hears (least_for m kind) after.was_read messages end
-  pub says : IsWritten after.written (framed_answers m (side_of kind) messages entries) end
+  pub says : WritesAnswers after.written (framed_answers m (side_of kind) messages entries) end
   pub leaves : Leaves after.left end
 
 -- the place of the first of the entries
