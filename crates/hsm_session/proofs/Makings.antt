@@ -10,8 +10,8 @@ use Rattle.hsm_auth.specs.declared.entry.Granted.{Granted}
 use Rattle.hsm_auth.specs.declared.entry.Entry.{Entry}
 use Rattle.hsm_auth.specs.History.{entry}
 use Rattle.hsm_auth.specs.Own.{own}
-use Rattle.hsm_desk.specs.Kin.{Covers, first_pair}
-use Rattle.hsm_desk.specs.Passes.{PassView, IsBooked, Makes, OwnBooked, Sound, number}
+use Rattle.hsm_desk.specs.Kin.{Spans, first_pair}
+use Rattle.hsm_desk.specs.Passes.{PassView, Books, Makes, OwnBooked, Sound, number}
 use Rattle.hsm_answers.specs.Clear.{Authorises}
 use Rattle.hsm_answers.specs.Messages.{Side, host, message_ask}
 use Rattle.hsm_io.specs.Moments.{tick, after_now, after_calls}
@@ -65,13 +65,13 @@ by_place i n p q (inr more) = q more
 
 -- one more entry
 pub makes_more : (start p q : PassView) (entries : List (ℕ × Entry)) (moment : ℕ) (ask : Ask) (granted : Granted) (place : ℕ)
-    → Makes start p entries → IsBooked p q moment ask granted place → OwnBooked p q moment ask granted place → Sound q
+    → Makes start p entries → Books p q moment ask granted place → OwnBooked p q moment ask granted place → Sound q
     → Makes start q (entries ++ booked_entry p moment ask granted place ∷ [])
 makes_more start p q entries moment ask granted place m b own_more sound =
     let same : number p ≡ number start = ap (λ (kin : List (ℕ × ℕ)). (first_pair kin).0) m.kin in
     let new : ℕ × Entry = booked_entry p moment ask granted place in
     let before : List Entry = p.seen ++ b.others in
-    let Apart : ℕ → Entry → Type 0 = λ k e. length start.seen ≤ k → (j : ℕ) (pair : ℕ × ℕ) → slice_get start.kin j ≡ Some pair → Covers pair e.pass → e.pass ≡ number start in
+    let Apart : ℕ → Entry → Type 0 = λ k e. length start.seen ≤ k → (j : ℕ) (pair : ℕ × ℕ) → slice_get start.kin j ≡ Some pair → Spans pair e.pass → e.pass ≡ number start in
     let earlier : (k : ℕ) (e : Entry) → slice_get before k ≡ Some e → Apart k e = λ k e at past j pair there covers.
     by_place k (length p.seen)
     (λ less. m.apart k e past (sym (slice_get-append_left p.seen b.others k less) ∙ at) j pair there covers)

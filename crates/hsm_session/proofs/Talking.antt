@@ -9,7 +9,7 @@ use Rattle.hsm_auth.specs.declared.entry.Ask.{Ask}
 use Rattle.hsm_auth.specs.declared.entry.Granted.{Granted}
 use Rattle.hsm_auth.specs.declared.entry.Entry.{Entry}
 use Rattle.hsm_answers.specs.Messages.{Side, message_answer, message_ask}
-use Rattle.hsm_desk.specs.Passes.{IsBooked, OwnBooked, Sound}
+use Rattle.hsm_desk.specs.Passes.{Books, OwnBooked, Sound}
 use Rattle.hsm_frame.specs.Calls.{IsNotYet}
 use Rattle.hsm_frame.specs.Frames.{Frames, IsMessage, IsShort, IsTail, StreamEnd, Whole, Part, frame}
 use Rattle.hsm_frame.specs.Frames as stream
@@ -129,7 +129,7 @@ waits_at_start least held none = record {
 pub going_books : (m : Module) (kind : Place) (lane : ℕ) (start old new : Scene) (between : Option (List gates.GateCall))
     (message rest out reply : List ℕ) (count : Count) (ask : Ask) (granted : Granted) (place : ℕ) → WordsAuthorise
     → IsMessage (least_for m kind) message → ask ≡ message_ask m (side_of kind) message → reply ≡ message_answer m (side_of kind) message granted
-    → IsBooked old.pass new.pass new.last ask granted place → OwnBooked old.pass new.pass new.last ask granted place → Sound new.pass
+    → Books old.pass new.pass new.last ask granted place → OwnBooked old.pass new.pass new.last ask granted place → Sound new.pass
     → ((c : List ℕ) → old.moments ≡ Some c → (new.last ≡ tick c 0) × (new.moments ≡ Some (after_now c)))
     → ((c : List gates.GateCall) → old.calls ≡ Some c → between ≡ Some (c ++ gates.before lane count.messages ∷ []))
     → ((c : List gates.GateCall) → between ≡ Some c → new.calls ≡ Some (c ++ gates.after lane count.messages ∷ []))
