@@ -7,11 +7,11 @@ use Rattle.hsm_auth.specs.declared.entry.Granted.{Granted}
 use Rattle.hsm_auth.specs.declared.entry.Entry.{Entry}
 use Rattle.hsm_auth.specs.declared.state.State.{State}
 use Rattle.hsm_auth.specs.History.{entry, now, lasts, live, next, recent, ends, given, words_of, kind_of, is_good, outcome, StandsFor}
-use Rattle.hsm_auth.specs.Steps.{view_of, ComesTo, answer_of, Answers, Notes}
+use Rattle.hsm_auth.specs.Steps.{view_of, ComesTo, answer_from, Answers, Notes}
 use Rattle.hsm_auth.proofs.Histories.{now-push, now-max, live-come, live-push, next-push, recent-push}
 use Rattle.circular_buffer.specs.Buffer.{keep_last}
 
-outcome-of : (h : List Entry) (m : ℕ) (ask : Ask) → answer_of (now h m) (next h) (live h m) (recent h) ask ≡ outcome h m ask
+outcome-of : (h : List Entry) (m : ℕ) (ask : Ask) → answer_from (now h m) (next h) (live h m) (recent h) ask ≡ outcome h m ask
 outcome-of h m (Use needs words) = refl
 outcome-of h m (Authorise activity minutes) = refl
 outcome-of h m (Cancel activity) = refl
@@ -30,7 +30,7 @@ steps was come done new h pass m ask answer stands comes answers notes =
     let number : come.number ≡ length h % 9223372036854775808 = comes.number ∙ stands.number in
     let kept : come.notes.items ≡ recent h = comes.notes ∙ stands.notes in
     let long : length (h ++ e ∷ []) ≡ length h + 1 = length-append h (e ∷ []) in (
-      answers.answered ∙ (λ i. answer_of (moment i) (place i) (grants i) (kept i) ask) ∙ outcome-of h m ask,
+      answers.answered ∙ (λ i. answer_from (moment i) (place i) (grants i) (kept i) ask) ∙ outcome-of h m ask,
       record {
         moment = notes.moment ∙ (answers.moment ∙ (moment ∙ (now-max h m ∙ sym (now-push h e 0))));
         grants = notes.grants ∙ (answers.grants ∙ ((λ i. filter (λ (g : Grant). not (ends ask answer g.activity)) (grants i) ++ given (moment i) ask answer) ∙ sym (live-push h e)));

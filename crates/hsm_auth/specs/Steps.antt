@@ -24,17 +24,17 @@ pub record ComesTo (m : ℕ) (was new : State) : Type 0 where
   pub notes : new.notes.items ≡ was.notes.items
 
 -- what a ledger of this moment, random place, grants and notes answers
-abbrev pub answer_of : ℕ → ℕ → List Grant → List Note → Ask → Granted
-answer_of moment place grants notes (Use needs words) = if are_met needs grants then granted.Use place else granted.Refused
-answer_of moment place grants notes (Authorise activity minutes) = if nat_le 32 (other_count activity grants) then granted.Full else granted.Authorised
-answer_of moment place grants notes (Cancel activity) = granted.Cancelled (same_count activity grants)
-answer_of moment place grants notes CancelAll = granted.Cancelled (length grants)
-answer_of moment place grants notes Look = granted.Seen moment place record { items = grants }
-answer_of moment place grants notes Recent = granted.Recent record { items = notes }
+abbrev pub answer_from : ℕ → ℕ → List Grant → List Note → Ask → Granted
+answer_from moment place grants notes (Use needs words) = if are_met needs grants then granted.Use place else granted.Refused
+answer_from moment place grants notes (Authorise activity minutes) = if nat_le 32 (other_count activity grants) then granted.Full else granted.Authorised
+answer_from moment place grants notes (Cancel activity) = granted.Cancelled (same_count activity grants)
+answer_from moment place grants notes CancelAll = granted.Cancelled (length grants)
+answer_from moment place grants notes Look = granted.Seen moment place record { items = grants }
+answer_from moment place grants notes Recent = granted.Recent record { items = notes }
 
 -- the ask is answered, and the grants and the random place are what they are after it
 pub record Answers (ask : Ask) (answer : Granted) (was new : State) : Type 0 where
-  pub answered : answer ≡ answer_of was.moment was.place was.grants.items was.notes.items ask
+  pub answered : answer ≡ answer_from was.moment was.place was.grants.items was.notes.items ask
   pub moment : new.moment ≡ was.moment
   pub grants : new.grants.items ≡ filter (λ (g : Grant). not (ends ask answer g.activity)) was.grants.items ++ given was.moment ask answer
   pub place : new.place ≡ (was.place + words_of ask answer) % 2 ^ 63

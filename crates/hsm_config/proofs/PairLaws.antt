@@ -8,7 +8,8 @@ use Rattle.std.proofs.lemmas.List.Folds.{list_all_at}
 use Rattle.std.proofs.lemmas.List.Sums.{AllPass-from_list_all, list_all-from_AllPass}
 use Rattle.hsm_lmk.specs.Sealing.{pair_key}
 use Rattle.hsm_lmk.specs.Opening.{IsFirstEven}
-use Rattle.hsm_lmk.specs.Opened.{all_odd, has_odd_parity}
+use Rattle.hsm_parity.specs.Parity.{has_odd_parity}
+use Rattle.hsm_lmk.specs.Opened.{all_odd}
 use Rattle.hsm_lmk.specs.declared.LmkFault.{LmkFault}
 use Rattle.hsm_lmk.specs.declared.LmkFault.TheVariants.{Parity}
 use Rattle.hsm_lmk.proofs.OpenAnswers.{all_odd-Decides}

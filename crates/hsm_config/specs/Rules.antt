@@ -4,7 +4,7 @@ use Rattle.std.specs.List.{list_all, list_any, position_from}
 use Rattle.std.specs.Str.{bytes_eq}
 use Rattle.toml.specs.Data.{Data, Members}
 use Rattle.hsm_parity.specs.Parity.{adjusted_byte}
-use Rattle.hsm_lmk.specs.Opened.{has_odd_parity}
+use Rattle.hsm_parity.specs.Parity.{has_odd_parity}
 use Rattle.hsm_config.specs.Document.{keys_of, elements_at, text_at, number_at, number_of, is_within, are_hex, all_hex_bytes}
 
 -- the seven keys

@@ -3,7 +3,7 @@
 ghost use Rattle.std.specs.Prelude.{◌≡◌, codes, Some, None, if◌then◌else◌};
 ghost use Rattle.std.specs.List.{list_all};
 ghost use Rattle.toml.specs.View.{table_view};
-ghost use Rattle.hsm_lmk.specs.Opened.{has_odd_parity};
+ghost use Rattle.hsm_parity.specs.Parity.{has_odd_parity};
 ghost use Rattle.hsm_config.specs.Document.{text_at};
 ghost use Rattle.hsm_config.specs.Rules.{are_odd, has_pairs, is_test, pairs_of};
 

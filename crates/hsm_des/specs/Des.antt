@@ -65,12 +65,12 @@ unfoldable pub round_keys : List Bool → List (List Bool)
 round_keys key = keys_from left_shifts (take 28 (pick key_choice key)) (drop 28 (pick key_choice key))
 
 -- the block x enciphered ("Enciphering")
-abbrev pub enciphered : List Bool → List Bool → List Bool
-enciphered key x = cipher (round_keys key) x
+abbrev pub enciphered_bits : List Bool → List Bool → List Bool
+enciphered_bits key x = cipher (round_keys key) x
 
 -- the block x deciphered, which takes the round keys in reverse ("Deciphering")
-abbrev pub deciphered : List Bool → List Bool → List Bool
-deciphered key x = cipher (reverse (round_keys key)) x
+abbrev pub deciphered_bits : List Bool → List Bool → List Bool
+deciphered_bits key x = cipher (reverse (round_keys key)) x
 
 -- the bits of a key of 8 bytes
 unfoldable pub key_bits : List ℕ → List Bool

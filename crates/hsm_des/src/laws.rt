@@ -2,7 +2,7 @@
 //! `encrypt` with the same contract.
 
 ghost use Rattle.std.specs.Prelude.{◌≡◌, ◌<◌, ◌*◌, ◌/◌, ◌^◌, ℕ, Bool, List, [], All, length, map, slice_index, slice_index_or};
-ghost use Rattle.hsm_des.specs.Des.{deciphered, enciphered, des_encrypt, des_decrypt, key_bits, round_keys};
+ghost use Rattle.hsm_des.specs.Des.{deciphered_bits, enciphered_bits, des_encrypt, des_decrypt, key_bits, round_keys};
 ghost use Rattle.hsm_des.specs.Merged.{merged_entry};
 ghost use Rattle.hsm_des.specs.Words.{key_part};
 
@@ -44,10 +44,10 @@ pub fn parity_is_ignored()
 
 /// Under each key, deciphering and enciphering undo each other, on blocks as lists of bits.
 pub fn each_undoes_the_other()
-    ensures deciphered { (key x : List Bool) → length x ≡ 64
-        → deciphered key (enciphered key x) ≡ x }
-    ensures enciphered { (key x : List Bool) → length x ≡ 64
-        → enciphered key (deciphered key x) ≡ x }
+    ensures deciphered_bits { (key x : List Bool) → length x ≡ 64
+        → deciphered_bits key (enciphered_bits key x) ≡ x }
+    ensures enciphered_bits { (key x : List Bool) → length x ≡ 64
+        → enciphered_bits key (deciphered_bits key x) ≡ x }
 {}
 
 /// The same on blocks as numbers, which stay below 2^64.

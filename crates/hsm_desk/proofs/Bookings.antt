@@ -9,7 +9,7 @@ use Rattle.hsm_auth.specs.declared.entry.Entry.{Entry}
 use Rattle.hsm_auth.specs.History.{entry, outcome, IsLegal, StandsFor}
 use Rattle.hsm_desk.specs.declared.view.Known.{Known}
 use Rattle.hsm_desk.specs.declared.view.View.{View}
-use Rattle.hsm_desk.specs.declared.view.Held.{Held}
+use Rattle.hsm_desk.specs.declared.view.InSlot.{InSlot}
 use Rattle.hsm_desk.specs.declared.view.Stage.TheVariants.{Idle, Waiting, Turn}
 use Rattle.hsm_desk.specs.Kin.{IsCons, IsKin, IsSound, Owns, first_pair, Grows}
 use Rattle.hsm_desk.specs.Rule.{knowing, viewed, Ruled, Seated, Enters, Takes, Has, entry_by, ticket_of}
@@ -17,29 +17,29 @@ use Rattle.hsm_desk.specs.Passes.{PassView, Books}
 use Rattle.hsm_desk.proofs.Moves.{enters_at}
 
 abbrev Carried : Type 0
-Carried = List (ℕ × Option Held)
+Carried = List (ℕ × Option InSlot)
 
-pub enters_from : (slots id t : ℕ) (was me : Seated) (x : Held) → slots ≡ 1 → was.0.stage ≡ Turn t → was.1 ≡ (0, None) ∷ [] → me ≡ (was.0, (0, Some x) ∷ rest was.1) → t < 2 ^ 62
+pub enters_from : (slots id t : ℕ) (was me : Seated) (x : InSlot) → slots ≡ 1 → was.0.stage ≡ Turn t → was.1 ≡ (0, None) ∷ [] → me ≡ (was.0, (0, Some x) ∷ rest was.1) → t < 2 ^ 62
     → IsLegal (was.0.known.seen ++ entry_by was.0.known.kin x ∷ []) → StandsFor x.ledger.value (was.0.known.seen ++ entry_by was.0.known.kin x ∷ []) → Allows Ruled slots id me 0 (λ n. (n + 1) % 2 ^ 64) (Enters me)
 enters_from slots id t was me x one st empty is early may stands =
     let e : me ≡ (was.0, (0, Some x) ∷ []) = is ∙ ap (λ (c : Carried). (was.0, (0, Some x) ∷ rest c)) empty in
     subst (λ (m : Seated). Allows Ruled slots id m 0 (λ n. (n + 1) % 18446744073709551616) (Enters m)) (sym e) (enters_at slots id t (was.0, (0, Some x) ∷ []) x one st refl early may stands)
 
-pub slot_there : (m m' : Seated) → Takes m m' → (x : Option Held) × (m'.1 ≡ (0, x) ∷ rest m'.1)
-slot_there m m' t = let y : Option Held = Some t.slot.0 in (y, subst (λ (c : Carried). c ≡ (0, y) ∷ rest c) (sym t.slot.1) refl)
+pub slot_there : (m m' : Seated) → Takes m m' → (x : Option InSlot) × (m'.1 ≡ (0, x) ∷ rest m'.1)
+slot_there m m' t = let y : Option InSlot = Some t.slot.0 in (y, subst (λ (c : Carried). c ≡ (0, y) ∷ rest c) (sym t.slot.1) refl)
 
-found_in : Option Held → Carried → Option Held
+found_in : Option InSlot → Carried → Option InSlot
 found_in x [] = x
 found_in x (c ∷ cs) = c.1
 
 -- what was found in the slot is what was taken
-pub found_is : (m m' : Seated) (r : Option Held) (t : Takes m m') → m'.1 ≡ (0, r) ∷ rest m'.1 → r ≡ Some t.slot.0
+pub found_is : (m m' : Seated) (r : Option InSlot) (t : Takes m m') → m'.1 ≡ (0, r) ∷ rest m'.1 → r ≡ Some t.slot.0
 unfolding found_in
 found_is m m' r t is = ap (found_in r) (sym is ∙ t.slot.1)
 
-pub has_from : (ticket : ℕ) (old mid new : Seated) (r : Option Held) (x : Held) → old.0.stage ≡ Waiting ticket → Takes old mid → mid.1 ≡ (0, r) ∷ rest mid.1 → new ≡ (mid.0, (0, None) ∷ rest mid.1) → r ≡ Some x → Has ticket old new x
+pub has_from : (ticket : ℕ) (old mid new : Seated) (r : Option InSlot) (x : InSlot) → old.0.stage ≡ Waiting ticket → Takes old mid → mid.1 ≡ (0, r) ∷ rest mid.1 → new ≡ (mid.0, (0, None) ∷ rest mid.1) → r ≡ Some x → Has ticket old new x
 has_from ticket old mid new r x st t is now some =
-    let y : Held = t.slot.0 in
+    let y : InSlot = t.slot.0 in
     let same : Some y ≡ Some x = sym (found_is old mid r t is) ∙ some in
     let held : y ≡ x = cc (same) in
     let seat : new.0 ≡ mid.0 = ap (λ (m : Seated). m.0) now in
@@ -50,11 +50,11 @@ has_from ticket old mid new r x st t is now some =
       place = ap (λ (v : View). length v.known.seen) seat ∙ (t.place ∙ ticket');
       legal = subst (λ (v : View). IsLegal v.known.seen) (sym seat) t.legal;
       slot = ap (λ (m : Seated). m.1) now ∙ ap (λ (c : Carried). (0, None) ∷ rest c) t.slot.1;
-      ledger = subst (λ (z : Held × View). StandsFor z.0.ledger.value z.1.known.seen) (λ i. (held i, sym seat i)) t.slot.2;
+      ledger = subst (λ (z : InSlot × View). StandsFor z.0.ledger.value z.1.known.seen) (λ i. (held i, sym seat i)) t.slot.2;
     }
 
 -- the history with the entry is legal, and the ledger then stands for it
-pub may_enter : (seen : List Entry) (kin : List (ℕ × ℕ)) (moment : ℕ) (ask : Ask) (granted : Granted) (was : Ledger) (x : Held) → StandsFor was seen → IsLegal seen
+pub may_enter : (seen : List Entry) (kin : List (ℕ × ℕ)) (moment : ℕ) (ask : Ask) (granted : Granted) (was : Ledger) (x : InSlot) → StandsFor was seen → IsLegal seen
     → ((h : List Entry) (pass : ℕ) → StandsFor was h → StandsFor x.ledger.value (h ++ entry pass moment ask granted ∷ []))
     → ((h : List Entry) (pass : ℕ) → StandsFor was h → IsLegal h → IsLegal (h ++ entry pass moment ask granted ∷ []))
     → x.moment ≡ moment → x.ask.value ≡ ask → x.granted.value ≡ granted
@@ -68,7 +68,7 @@ may_enter seen kin moment ask granted was x stands legal goes_on stays_legal m a
 abbrev pub pass_view : TableId → Known → PassView
 pass_view desk known = record { desk = desk; seen = known.seen; kin = known.kin }
 
-pub books_from : (desk desk' : TableId) (known : Known) (t : ℕ) (drawn taken made : Seated) (x0 x : Held) (moment : ℕ) (ask : Ask) (granted : Granted) (place : ℕ)
+pub books_from : (desk desk' : TableId) (known : Known) (t : ℕ) (drawn taken made : Seated) (x0 x : InSlot) (moment : ℕ) (ask : Ask) (granted : Granted) (place : ℕ)
     → desk' ≡ desk → drawn ≡ (viewed known (Waiting t), []) → t < 2 ^ 62 → Has t drawn taken x0 → IsLegal (taken.0.known.seen ++ entry_by taken.0.known.kin x ∷ [])
     → place ≡ length taken.0.known.seen → made ≡ (viewed (knowing (taken.0.known.seen ++ entry_by taken.0.known.kin x ∷ []) taken.0.known.kin) Idle, [])
     → x.moment ≡ moment → x.ask.value ≡ ask → x.granted.value ≡ granted → granted ≡ outcome taken.0.known.seen moment ask
@@ -92,7 +92,7 @@ books_from desk desk' known t drawn taken made x0 x moment ask granted place her
     }
 
 -- the same, of the pass as contracts saw it before
-pub books_as : (p : PassView) (desk desk' : TableId) (known : Known) (t : ℕ) (drawn taken made : Seated) (x0 x : Held) (moment : ℕ) (ask : Ask) (granted : Granted) (place : ℕ)
+pub books_as : (p : PassView) (desk desk' : TableId) (known : Known) (t : ℕ) (drawn taken made : Seated) (x0 x : InSlot) (moment : ℕ) (ask : Ask) (granted : Granted) (place : ℕ)
     → pass_view desk known ≡ p → desk' ≡ desk → drawn ≡ (viewed known (Waiting t), []) → t < 2 ^ 62 → Has t drawn taken x0 → IsLegal (taken.0.known.seen ++ entry_by taken.0.known.kin x ∷ [])
     → place ≡ length taken.0.known.seen → made ≡ (viewed (knowing (taken.0.known.seen ++ entry_by taken.0.known.kin x ∷ []) taken.0.known.kin) Idle, [])
     → x.moment ≡ moment → x.ask.value ≡ ask → x.granted.value ≡ granted → granted ≡ outcome taken.0.known.seen moment ask
@@ -102,7 +102,7 @@ books_as p desk desk' known t drawn taken made x0 x moment ask granted place is 
     (books_from desk desk' known t drawn taken made x0 x moment ask granted place here draws early has may stands makes m a b answers)
 
 -- what holds of the pass after a booking
-pub sound_after : (known : Known) (t : ℕ) (drawn taken made : Seated) (x0 x : Held) → IsSound known.seen known.kin → drawn ≡ (viewed known (Waiting t), []) → t < 2 ^ 62 → Has t drawn taken x0 → IsLegal (taken.0.known.seen ++ entry_by taken.0.known.kin x ∷ [])
+pub sound_after : (known : Known) (t : ℕ) (drawn taken made : Seated) (x0 x : InSlot) → IsSound known.seen known.kin → drawn ≡ (viewed known (Waiting t), []) → t < 2 ^ 62 → Has t drawn taken x0 → IsLegal (taken.0.known.seen ++ entry_by taken.0.known.kin x ∷ [])
     → made ≡ (viewed (knowing (taken.0.known.seen ++ entry_by taken.0.known.kin x ∷ []) taken.0.known.kin) Idle, []) → Owns (taken.0.known.seen ++ entry_by taken.0.known.kin x ∷ []) taken.0.known.kin
     → IsSound made.0.known.seen made.0.known.kin
 sound_after known t drawn taken made x0 x sound draws early has may makes own =
@@ -112,8 +112,8 @@ sound_after known t drawn taken made x0 x sound draws early has may makes own =
     let fact : IsSound (seen ++ entry_by taken.0.known.kin x ∷ []) taken.0.known.kin = record { legal = may; pairs = subst IsKin kin' sound.pairs; own = own; first = subst IsCons kin' sound.first; few = few } in
     subst (λ (s : Seated). IsSound s.0.known.seen s.0.known.kin) (sym makes) fact
 
-pub own_from : (was me : Seated) (x : Held) (n : ℕ) (new : Seated) → was.1 ≡ (0, None) ∷ [] → me ≡ (was.0, (0, Some x) ∷ rest was.1) → Enters me n new → Owns (was.0.known.seen ++ entry_by was.0.known.kin x ∷ []) was.0.known.kin
+pub own_from : (was me : Seated) (x : InSlot) (n : ℕ) (new : Seated) → was.1 ≡ (0, None) ∷ [] → me ≡ (was.0, (0, Some x) ∷ rest was.1) → Enters me n new → Owns (was.0.known.seen ++ entry_by was.0.known.kin x ∷ []) was.0.known.kin
 own_from was me x n new empty is told =
     let e : me ≡ (was.0, (0, Some x) ∷ []) = is ∙ ap (λ (c : Carried). (was.0, (0, Some x) ∷ rest c)) empty in
     let fact = told x (ap (λ (m : Seated). m.1) e) in
-    subst (λ (m : Seated). Owns (m.0.known.seen ++ entry_by m.0.known.kin x ∷ []) m.0.known.kin) e fact.2
+    subst (λ (m : Seated). Owns (m.0.known.seen ++ entry_by m.0.known.kin x ∷ []) m.0.known.kin) e fact.own

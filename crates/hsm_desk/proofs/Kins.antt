@@ -12,7 +12,7 @@ use Rattle.std.proofs.Math.Pow.{pow_mono}
 use Rattle.hsm_auth.specs.declared.entry.Entry.{Entry}
 use Rattle.hsm_desk.specs.Totals.{total, one_if}
 use Rattle.hsm_desk.proofs.Totals.{total_member, one_same}
-use Rattle.hsm_desk.specs.Kin.{Covers, covering, part, IsPair, IsKin, kept_kin, new_kin, first_pair, IsCons, Knows}
+use Rattle.hsm_desk.specs.Kin.{Spans, spanning, part, IsPair, IsKin, kept_kin, new_kin, first_pair, IsCons, Knows}
 
 even : (x s q r m : ℕ) → q * s + r ≡ x → r < s → q ≡ m * 2 → x % (2 * s) ≡ r
 even x s q r m is below e = let a : q * s ≡ m * (2 * s) = ap (λ (k : ℕ). k * s) e ∙ mul_assoc m 2 s in
@@ -31,8 +31,8 @@ twice x s pos = let q : ℕ = x / s in let below : x % s < s = mod_below x s pos
     (λ e. inl (even x s q (x % s) (q / 2) (div-add-mod' x s) below (omega arith)))
     (λ ne. inr (odd x s q (x % s) (q / 2) (div-add-mod' x s) below (omega arith)))
 
-pub split_covers : (x n s : ℕ) → n < s → one_if (eqb (x % (2 * s)) n) + one_if (eqb (x % (2 * s)) (n + s)) ≡ one_if (eqb (x % s) n)
-split_covers x n s below = let r : ℕ = x % s in let r' : ℕ = x % (2 * s) in let small : r < s = mod_below x s (omega arith) in
+pub split_spans : (x n s : ℕ) → n < s → one_if (eqb (x % (2 * s)) n) + one_if (eqb (x % (2 * s)) (n + s)) ≡ one_if (eqb (x % s) n)
+split_spans x n s below = let r : ℕ = x % s in let r' : ℕ = x % (2 * s) in let small : r < s = mod_below x s (omega arith) in
     ⊎_elim (λ (e : r' ≡ r). one x n s r r' below small e) (λ (e : r' ≡ r + s). two x n s r r' below small e) (twice x s (omega arith))
   where
     one : (x n s r r' : ℕ) → n < s → r < s → r' ≡ r → one_if (eqb r' n) + one_if (eqb r' (n + s)) ≡ one_if (eqb r n)
@@ -68,19 +68,19 @@ pub new_pair : (p : ℕ × ℕ) → IsPair p → p.1 ≤ 2 ^ 61 → IsPair (p.0 
 new_pair p pair room = let k = kept_pair p pair room in record { below = (let b = pair.below in omega arith); power = k.power; small = k.small; step = k.step }
 
 -- what the new pairs cover, the old one did
-pub kept_covers : (p : ℕ × ℕ) (x : ℕ) → p.0 < p.1 → Covers (p.0, 2 * p.1) x → Covers p x
-kept_covers p x below is = ⊎_elim (λ (e : x % (2 * p.1) ≡ x % p.1). sym e ∙ is) (λ (e : x % (2 * p.1) ≡ x % p.1 + p.1). absurd (let i : x % (2 * p.1) ≡ p.0 = is in omega arith)) (twice x p.1 (omega arith))
+pub kept_spans : (p : ℕ × ℕ) (x : ℕ) → p.0 < p.1 → Spans (p.0, 2 * p.1) x → Spans p x
+kept_spans p x below is = ⊎_elim (λ (e : x % (2 * p.1) ≡ x % p.1). sym e ∙ is) (λ (e : x % (2 * p.1) ≡ x % p.1 + p.1). absurd (let i : x % (2 * p.1) ≡ p.0 = is in omega arith)) (twice x p.1 (omega arith))
 
-pub new_covers : (p : ℕ × ℕ) (x : ℕ) → p.0 < p.1 → Covers (p.0 + p.1, 2 * p.1) x → Covers p x × (x ≢ p.0)
-new_covers p x below is = let i : x % (2 * p.1) ≡ p.0 + p.1 = is in let small : x % p.1 < p.1 = mod_below x p.1 (omega arith) in (
+pub new_spans : (p : ℕ × ℕ) (x : ℕ) → p.0 < p.1 → Spans (p.0 + p.1, 2 * p.1) x → Spans p x × (x ≢ p.0)
+new_spans p x below is = let i : x % (2 * p.1) ≡ p.0 + p.1 = is in let small : x % p.1 < p.1 = mod_below x p.1 (omega arith) in (
   ⊎_elim (λ (e : x % (2 * p.1) ≡ x % p.1). absurd (omega arith)) (λ (e : x % (2 * p.1) ≡ x % p.1 + p.1). let h : x % p.1 ≡ p.0 = omega arith in h) (twice x p.1 (omega arith)),
   λ e. let m : x % (2 * p.1) ≡ x = mod-eq_of_lt (omega arith) in absurd (omega arith),
 )
 
 -- the kin after a split, as a list
-pub kept_counts : (x : ℕ) (kin : List (ℕ × ℕ)) → IsCons kin → IsKin kin → total (covering x) (kept_kin kin) + total (covering x) (new_kin kin) ≡ total (covering x) kin
+pub kept_counts : (x : ℕ) (kin : List (ℕ × ℕ)) → IsCons kin → IsKin kin → total (spanning x) (kept_kin kin) + total (spanning x) (new_kin kin) ≡ total (spanning x) kin
 kept_counts x [] cons pairs = refl
-kept_counts x (p ∷ ps) cons pairs = let h = split_covers x p.0 p.1 (pairs zero p refl).below in let a : ℕ = total (covering x) ps in omega arith
+kept_counts x (p ∷ ps) cons pairs = let h = split_spans x p.0 p.1 (pairs zero p refl).below in let a : ℕ = total (spanning x) ps in omega arith
 
 pub kept_weight : (kin : List (ℕ × ℕ)) → IsKin kin → (first_pair kin).1 ≤ 2 ^ 61 → total part (kept_kin kin) + total part (new_kin kin) ≡ total part kin
 kept_weight [] pairs room = refl
@@ -101,8 +101,8 @@ pub kept_knows : (log seen : List Entry) (kin : List (ℕ × ℕ)) → IsKin kin
 kept_knows log seen [] pairs knows k e at j p is cover = absurd (cc (is))
 kept_knows log seen (q ∷ qs) pairs knows k e at zero p is cover =
     let same : (q.0, 2 * q.1) ≡ p = cc (is) in
-    let cover' : Covers (q.0, 2 * q.1) e.pass = subst (λ (z : ℕ × ℕ). Covers z e.pass) (sym same) cover in
-    let told = knows k e at zero q refl (kept_covers q e.pass (pairs zero q refl).below cover') in
+    let cover' : Spans (q.0, 2 * q.1) e.pass = subst (λ (z : ℕ × ℕ). Spans z e.pass) (sym same) cover in
+    let told = knows k e at zero q refl (kept_spans q e.pass (pairs zero q refl).below cover') in
     (told.0 ∙ ap (λ (z : ℕ × ℕ). z.0) same, told.1)
 kept_knows log seen (q ∷ qs) pairs knows k e at (suc j) p is cover = knows k e at (suc j) p is cover
 
@@ -110,8 +110,8 @@ pub new_knows : (log seen : List Entry) (kin : List (ℕ × ℕ)) → IsKin kin 
 new_knows log seen [] pairs knows k e at j p is cover = absurd (cc (is))
 new_knows log seen (q ∷ qs) pairs knows k e at zero p is cover =
     let same : (q.0 + q.1, 2 * q.1) ≡ p = cc (is) in
-    let cover' : Covers (q.0 + q.1, 2 * q.1) e.pass = subst (λ (z : ℕ × ℕ). Covers z e.pass) (sym same) cover in
-    let old = new_covers q e.pass (pairs zero q refl).below cover' in
+    let cover' : Spans (q.0 + q.1, 2 * q.1) e.pass = subst (λ (z : ℕ × ℕ). Spans z e.pass) (sym same) cover in
+    let old = new_spans q e.pass (pairs zero q refl).below cover' in
     absurd (old.1 ((knows k e at zero q refl old.0).0))
 new_knows log seen (q ∷ qs) pairs knows k e at (suc j) p is cover = absurd (cc (is))
 
@@ -121,32 +121,32 @@ elem_at [] k x at = absurd (cc (at))
 elem_at (y ∷ ys) zero x at = ap some (cc (at))
 elem_at (y ∷ ys) (suc k) x at = elem_at ys k x at
 
-pub covering_one : (p : ℕ × ℕ) (x : ℕ) → Covers p x → covering x p ≡ 1
-covering_one p x is = ap (λ (z : ℕ). one_if (eqb z p.0)) is ∙ one_same p.0
+pub spanning_one : (p : ℕ × ℕ) (x : ℕ) → Spans p x → spanning x p ≡ 1
+spanning_one p x is = ap (λ (z : ℕ). one_if (eqb z p.0)) is ∙ one_same p.0
 
 -- a kin that covers a number counts it
-pub counts : (kin : List (ℕ × ℕ)) (j : ℕ) (p : ℕ × ℕ) (x : ℕ) → slice_get kin j ≡ Some p → Covers p x → 1 ≤ total (covering x) kin
-counts kin j p x at is = let one = covering_one p x is in let h = total_member (covering x) kin j p (elem_at kin j p at) in omega arith
+pub counts : (kin : List (ℕ × ℕ)) (j : ℕ) (p : ℕ × ℕ) (x : ℕ) → slice_get kin j ≡ Some p → Spans p x → 1 ≤ total (spanning x) kin
+counts kin j p x at is = let one = spanning_one p x is in let h = total_member (spanning x) kin j p (elem_at kin j p at) in omega arith
 
-pub own_covers : (kin : List (ℕ × ℕ)) → IsCons kin → IsKin kin → Covers (first_pair kin) (first_pair kin).0
-own_covers [] cons pairs = absurd (cc (cons.2))
-own_covers (p ∷ ps) cons pairs = mod-eq_of_lt (pairs zero p refl).below
+pub own_spans : (kin : List (ℕ × ℕ)) → IsCons kin → IsKin kin → Spans (first_pair kin) (first_pair kin).0
+own_spans [] cons pairs = absurd (cc (cons.2))
+own_spans (p ∷ ps) cons pairs = mod-eq_of_lt (pairs zero p refl).below
 
 pub first_there : (kin : List (ℕ × ℕ)) → IsCons kin → slice_get kin 0 ≡ Some (first_pair kin)
 first_there [] cons = absurd (cc (cons.2))
 first_there (p ∷ ps) cons = refl
 
-pub own_counts : (kin : List (ℕ × ℕ)) → IsCons kin → IsKin kin → 1 ≤ total (covering (first_pair kin).0) kin
-own_counts kin cons pairs = counts kin 0 (first_pair kin) (first_pair kin).0 (first_there kin cons) (own_covers kin cons pairs)
+pub own_counts : (kin : List (ℕ × ℕ)) → IsCons kin → IsKin kin → 1 ≤ total (spanning (first_pair kin).0) kin
+own_counts kin cons pairs = counts kin 0 (first_pair kin) (first_pair kin).0 (first_there kin cons) (own_spans kin cons pairs)
 
 -- where a number is covered once, the pair that covers the kin's own number is the first
-pub own_pair : (kin : List (ℕ × ℕ)) → IsCons kin → IsKin kin → total (covering (first_pair kin).0) kin ≤ 1 → (j : ℕ) (p : ℕ × ℕ) → slice_get kin j ≡ Some p → Covers p (first_pair kin).0 → p ≡ first_pair kin
+pub own_pair : (kin : List (ℕ × ℕ)) → IsCons kin → IsKin kin → total (spanning (first_pair kin).0) kin ≤ 1 → (j : ℕ) (p : ℕ × ℕ) → slice_get kin j ≡ Some p → Spans p (first_pair kin).0 → p ≡ first_pair kin
 own_pair [] cons pairs once j p at is = absurd (cc (cons.2))
 own_pair (q ∷ qs) cons pairs once zero p at is = cc (at)
 own_pair (q ∷ qs) cons pairs once (suc j) p at is =
-    let one = covering_one q q.0 (own_covers (q ∷ qs) cons pairs) in
+    let one = spanning_one q q.0 (own_spans (q ∷ qs) cons pairs) in
     let other = counts qs j p q.0 at is in
-    absurd (let h : covering q.0 q + total (covering q.0) qs ≤ 1 = once in omega arith)
+    absurd (let h : spanning q.0 q + total (spanning q.0) qs ≤ 1 = once in omega arith)
 
 pub weighs : (kin : List (ℕ × ℕ)) → IsCons kin → IsKin kin → 1 ≤ total part kin
 weighs [] cons pairs = absurd (cc (cons.2))

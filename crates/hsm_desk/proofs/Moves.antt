@@ -8,10 +8,10 @@ use Rattle.hsm_auth.specs.declared.entry.Entry.{Entry}
 use Rattle.hsm_auth.specs.History.{IsLegal, StandsFor}
 use Rattle.hsm_desk.specs.declared.view.Known.{Known}
 use Rattle.hsm_desk.specs.declared.view.View.{View}
-use Rattle.hsm_desk.specs.declared.view.Held.{Held}
+use Rattle.hsm_desk.specs.declared.view.InSlot.{InSlot}
 use Rattle.hsm_desk.specs.declared.view.Stage.{Stage}
 use Rattle.hsm_desk.specs.declared.view.Stage.TheVariants.{Idle, Waiting, Turn, Met}
-use Rattle.hsm_desk.specs.Kin.{Covers, IsCons, IsKin, IsPair, IsSound, Owns, first_pair, kept_kin, new_kin}
+use Rattle.hsm_desk.specs.Kin.{Spans, IsCons, IsKin, IsPair, IsSound, Owns, first_pair, kept_kin, new_kin}
 use Rattle.hsm_desk.specs.Rule.{viewed, Stands, Ruled, Seated, Draws, Awaits, entry_by, Enters, Learns, left, right, met, spent}
 use Rattle.std.proofs.lemmas.Option.{slice_get_within}
 use Rattle.hsm_desk.proofs.Histories.{prefix_length, get_append}
@@ -19,7 +19,7 @@ use Rattle.hsm_desk.proofs.Kins.{kept_are, new_are, kept_knows, new_knows}
 use Rattle.hsm_desk.proofs.Turns.{draws, awaits, enters, splits, joins, learns}
 
 abbrev Carried : Type 0
-Carried = List (ℕ × Option Held)
+Carried = List (ℕ × Option InSlot)
 
 -- a fact of a step, at the stage and the slots that a seat has
 at_stage : (P : ℕ → Seated → Type 0) (slots : ℕ) (me : Seated) (stage : Stage) (carried : Carried) → slots ≡ 1 → me.0.stage ≡ stage → me.1 ≡ carried → P 1 (viewed me.0.known stage, carried) → P slots me
@@ -31,7 +31,7 @@ draws_at slots id me one st c cons = at_stage (λ k m. Allows Ruled k id m 1 (λ
 pub awaits_at : (slots id t : ℕ) (me : Seated) → slots ≡ 1 → me.0.stage ≡ Waiting t → me.1 ≡ [] → Allows Ruled slots id me 0 (λ n. n) (Awaits me)
 awaits_at slots id t me one st c = at_stage (λ k m. Allows Ruled k id m 0 (λ n. n) (Awaits m)) slots me (Waiting t) [] one st c (awaits id me.0.known t)
 
-pub enters_at : (slots id t : ℕ) (me : Seated) (x : Held) → slots ≡ 1 → me.0.stage ≡ Turn t → me.1 ≡ (0, Some x) ∷ [] → t < 2 ^ 62 → IsLegal (me.0.known.seen ++ entry_by me.0.known.kin x ∷ []) → StandsFor x.ledger.value (me.0.known.seen ++ entry_by me.0.known.kin x ∷ [])
+pub enters_at : (slots id t : ℕ) (me : Seated) (x : InSlot) → slots ≡ 1 → me.0.stage ≡ Turn t → me.1 ≡ (0, Some x) ∷ [] → t < 2 ^ 62 → IsLegal (me.0.known.seen ++ entry_by me.0.known.kin x ∷ []) → StandsFor x.ledger.value (me.0.known.seen ++ entry_by me.0.known.kin x ∷ [])
     → Allows Ruled slots id me 0 (λ n. (n + 1) % 2 ^ 64) (Enters me)
 enters_at slots id t me x one st c early may stands = at_stage (λ k m. Allows Ruled k id m 0 (λ n. (n + 1) % 18446744073709551616) (Enters m)) slots me (Turn t) ((0, Some x) ∷ []) one st c (enters id t me.0.known.seen me.0.known.kin x early may stands)
 
@@ -62,14 +62,14 @@ there (x ∷ xs) zero far = (x, refl)
 there (x ∷ xs) (suc k) far = there xs k (omega arith)
 
 -- a seat whose kin covers every number has seen the whole history
-pub whole_length : (log : List Entry) (v : View) → Stands log v → ((x : ℕ) → (j : ℕ) × (q : ℕ × ℕ) × (slice_get v.known.kin j ≡ Some q) × Covers q x) → length log ≡ length v.known.seen
+pub whole_length : (log : List Entry) (v : View) → Stands log v → ((x : ℕ) → (j : ℕ) × (q : ℕ × ℕ) × (slice_get v.known.kin j ≡ Some q) × Spans q x) → length log ≡ length v.known.seen
 whole_length log v st all = elim (dec_le (length log) (length v.known.seen)) as (λ _. length log ≡ length v.known.seen) [
   | yes d ↦ (let h = prefix_length v.known.seen log st.fits.begins in omega arith)
   | no d ↦ absurd (let k : ℕ = length v.known.seen in let e = there log k (lt_of_not-le d) in let c = all e.0.pass in let near = (st.fits.knows k e.0 e.1 c.0 c.1 c.2 c.3).1 in omega arith)
 ]
 
 -- what the table has at its end
-pub closes : (id : ℕ) (v : View) (words : List ℕ) (slots : List (Option Held)) (served : ℕ) → Final (Seen Ruled id v) words slots → get_elem? words 0 ≡ some served
+pub closes : (id : ℕ) (v : View) (words : List ℕ) (slots : List (Option InSlot)) (served : ℕ) → Final (Seen Ruled id v) words slots → get_elem? words 0 ≡ some served
     → (log : List Entry) × Stands log v × (served ≡ length log)
 closes id v words slots served end at =
     let s = end.0 in let log = end.1.0.0 in let kept = end.1.0.1 in

@@ -15,8 +15,8 @@ use Rattle.std.proofs.Crossing.{Box-send, frees as heap_frees, send as heap_send
 use Rattle.std.specs.contracts.impls.GlobalAllocator.TheImpl.{ghosts}
 use Rattle.std.specs.contracts.alloc.Global.{the_row as global_row}
 use Rattle.hsm_desk.specs.contracts.plays.Turns.{the_row as turns_row}
-use Rattle.hsm_desk.specs.contracts.plays.TurnsTableRuleOptionHeldViewUnit.TheImpl.{ghosts as turns_ghosts}
-use Rattle.hsm_desk.specs.contracts.view.Held.{the_row as held_row, the_type as held_type}
+use Rattle.hsm_desk.specs.contracts.plays.TurnsTableRuleOptionInSlotViewUnit.TheImpl.{ghosts as turns_ghosts}
+use Rattle.hsm_desk.specs.contracts.view.InSlot.{the_row as held_row, the_type as held_type}
 use Rattle.hsm_desk.specs.contracts.view.View.{the_row as view_row}
 use Rattle.hsm_desk.specs.contracts.desk.Pass.{the_row as pass_row}
 use Rattle.hsm_desk.specs.contracts.desk.Pass.TheInside.{the_row as pass_inside}

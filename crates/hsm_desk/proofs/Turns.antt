@@ -15,12 +15,12 @@ use Rattle.hsm_auth.specs.declared.entry.Entry.{Entry}
 use Rattle.hsm_auth.specs.History.{IsLegal, StandsFor}
 use Rattle.hsm_desk.specs.declared.view.Known.{Known}
 use Rattle.hsm_desk.specs.declared.view.View.{View}
-use Rattle.hsm_desk.specs.declared.view.Held.{Held}
+use Rattle.hsm_desk.specs.declared.view.InSlot.{InSlot}
 use Rattle.hsm_desk.specs.declared.view.Stage.{Stage}
 use Rattle.hsm_desk.specs.declared.view.Stage.TheVariants.{Idle, Waiting, Turn, Met}
 use Rattle.hsm_desk.specs.Totals.{total, one_if, between}
-use Rattle.hsm_desk.specs.Kin.{Covers, covering, part, IsPair, IsKin, IsCons, first_pair, Knows, Owns, Grows, IsPartOf}
-use Rattle.hsm_desk.specs.Rule.{knowing, viewed, waits_at, ticket_at, turn_at, waits, has_ticket, has_turn, pairs_covering, weight, AtStage, Stands, Kept, Ruled, first_view, Draws, Awaits, entry_by, Enters, Learns, left, right, longer, met, spent}
+use Rattle.hsm_desk.specs.Kin.{Spans, spanning, part, IsPair, IsKin, IsCons, first_pair, Knows, Owns, Grows, IsPartOf}
+use Rattle.hsm_desk.specs.Rule.{knowing, viewed, waits_at, ticket_at, turn_at, waits, has_ticket, has_turn, pairs_spanning, weight, AtStage, Stands, Kept, Ruled, first_view, Draws, Awaits, entry_by, Enters, Learns, left, right, longer, met, spent}
 use Rattle.hsm_desk.proofs.Totals.{total_set, total_push, total_append, total_member, total_two, total_none, total_le, between_more, between_less, between_one, one_same}
 use Rattle.hsm_desk.proofs.Histories.{prefix_self, prefix_push, get_push, get_append, get_front, get_back}
 use Rattle.hsm_desk.proofs.Kins.{kept_counts, kept_weight, kept_are, new_are, kept_knows, new_knows, counts, own_counts, own_pair, weighs}
@@ -39,7 +39,7 @@ waits_le log known (Waiting t) pairs at = weighs known.kin at pairs
 waits_le log known (Turn t) pairs at = weighs known.kin at.2 pairs
 waits_le log known (Met a b) pairs at = omega arith
 
-module _ (words : List ℕ) (homes : List (maybe.Option (Option Held))) (views : List View) (log : List Entry) (kept : Kept words homes views log) where
+module _ (words : List ℕ) (homes : List (maybe.Option (Option InSlot))) (views : List View) (log : List Entry) (kept : Kept words homes views log) where
   -- fewer seats than 2 ^ 62 wait
   waits_few : total waits views ≤ 4611686018427387904
   waits_few = let le = total_le waits weight views (λ j u at. let h = kept.each j u at in waits_le log u.known u.stage h.pairs h.stage) in let e = kept.weighed in omega arith
@@ -84,7 +84,7 @@ draws id known cons s r len at fits =
               let e : one_if (eqb n t) ≡ one_if (eqb (L + T) t) = ap (λ (k : ℕ). one_if (eqb k t)) found in
               omega arith;
           slot = λ none. kept.slot (let a = total_set has_turn s.views id v w at in omega arith);
-          covered = λ x. let a = total_set (pairs_covering x) s.views id v w at in let b = kept.covered x in omega arith;
+          covered = λ x. let a = total_set (pairs_spanning x) s.views id v w at in let b = kept.covered x in omega arith;
           weighed = let a = total_set weight s.views id v w at in let b = kept.weighed in omega arith;
           each = each_set log s.views id w (λ j u _ e. kept.each j u e) record { fits = was.fits; pairs = was.pairs; stage = cons };
         },
@@ -93,7 +93,7 @@ draws id known cons s r len at fits =
     )
 
 -- where a seat waits with the ticket that is served, nobody has the turn
-nobody : (words : List ℕ) (homes : List (maybe.Option (Option Held))) (views : List View) (log : List Entry) → Kept words homes views log → (id : ℕ) (known : Known) (t : ℕ) → get_elem? views id ≡ some (viewed known (Waiting t)) → t ≡ length log → total has_turn views ≡ 0
+nobody : (words : List ℕ) (homes : List (maybe.Option (Option InSlot))) (views : List View) (log : List Entry) → Kept words homes views log → (id : ℕ) (known : Known) (t : ℕ) → get_elem? views id ≡ some (viewed known (Waiting t)) → t ≡ length log → total has_turn views ≡ 0
 nobody words homes views log kept id known t at served = total_none has_turn views (λ j u there. dite (ℕ_discrete j id)
     (λ (same : j ≡ id). let both : some u ≡ some (viewed known (Waiting t)) = sym there ∙ (ap (λ (k : ℕ). get_elem? views k) same ∙ at) in ap has_turn (some-injective u (viewed known (Waiting t)) both))
     (λ (apart : j ≢ id). idle j u.known u.stage apart there (kept.each j u there).stage))
@@ -136,10 +136,10 @@ awaits id known t s r len at fits =
     let stays : T' ≡ T = let a = total_set waits s.views id v w at in omega arith in
     let free = nobody s.words s.homes s.views log kept id known t at (sym e ∙ found) in
     let x = kept.slot free in
-    let y : Held = x.0 in (
+    let y : InSlot = x.0 in (
       w,
       takes 0 (Some y),
-      ap (λ (hs : List (maybe.Option (Option Held))). get_elem? hs 0) x.1,
+      ap (λ (hs : List (maybe.Option (Option InSlot))). get_elem? hs 0) x.1,
       (
         log,
         record {
@@ -152,7 +152,7 @@ awaits id known t s r len at fits =
               let c : between L (L + T') z ≡ between L (L + T) z = ap (λ (k : ℕ). between L (L + k) z) stays in
               omega arith;
           slot = λ none. absurd (let a = total_set has_turn s.views id v w at in omega arith);
-          covered = λ z. let a = total_set (pairs_covering z) s.views id v w at in let b = kept.covered z in omega arith;
+          covered = λ z. let a = total_set (pairs_spanning z) s.views id v w at in let b = kept.covered z in omega arith;
           weighed = let a = total_set weight s.views id v w at in let b = kept.weighed in omega arith;
           each = each_set log s.views id w (λ j u _ e'. kept.each j u e') record { fits = whole log known was.fits; pairs = was.pairs; stage = (sym e ∙ found, refl, was.stage) };
         },
@@ -176,17 +176,17 @@ one_home (h ∷ []) y len = refl
 one_home (h ∷ k ∷ hs) y len = absurd (omega arith)
 
 -- a kin that does not cover the new entry's number knows as before
-knows_push : (log seen : List Entry) (kin : List (ℕ × ℕ)) (e : Entry) → Knows log seen kin → ((j : ℕ) (p : ℕ × ℕ) → slice_get kin j ≡ Some p → ¬ Covers p e.pass) → Knows (log ++ e ∷ []) seen kin
+knows_push : (log seen : List Entry) (kin : List (ℕ × ℕ)) (e : Entry) → Knows log seen kin → ((j : ℕ) (p : ℕ × ℕ) → slice_get kin j ≡ Some p → ¬ Spans p e.pass) → Knows (log ++ e ∷ []) seen kin
 knows_push log seen kin e knows apart k x at j p is cover = ⊎_elim
     (λ (l : slice_get log k ≡ Some x). knows k x l j p is cover)
-    (λ (r : (k ≡ length log) × (e ≡ x)). absurd (apart j p is (subst (λ (z : Entry). Covers p z.pass) (sym r.1) cover)))
+    (λ (r : (k ≡ length log) × (e ≡ x)). absurd (apart j p is (subst (λ (z : Entry). Spans p z.pass) (sym r.1) cover)))
     (get_push log e x k at)
 
-fits_push : (log : List Entry) (known : Known) (e : Entry) → IsPartOf log known → ((j : ℕ) (p : ℕ × ℕ) → slice_get known.kin j ≡ Some p → ¬ Covers p e.pass) → IsPartOf (log ++ e ∷ []) known
+fits_push : (log : List Entry) (known : Known) (e : Entry) → IsPartOf log known → ((j : ℕ) (p : ℕ × ℕ) → slice_get known.kin j ≡ Some p → ¬ Spans p e.pass) → IsPartOf (log ++ e ∷ []) known
 fits_push log known e fits apart = record { begins = prefix_push known.seen log e fits.begins; knows = knows_push log known.seen known.kin e fits.knows apart }
 
 -- another seat, as an entry is made whose number it does not cover, while it does not have the turn
-stands_push : (log : List Entry) (e : Entry) (known : Known) (stage : Stage) → turn_at stage ≡ 0 → ((j : ℕ) (p : ℕ × ℕ) → slice_get known.kin j ≡ Some p → ¬ Covers p e.pass) → Stands log (viewed known stage) → Stands (log ++ e ∷ []) (viewed known stage)
+stands_push : (log : List Entry) (e : Entry) (known : Known) (stage : Stage) → turn_at stage ≡ 0 → ((j : ℕ) (p : ℕ × ℕ) → slice_get known.kin j ≡ Some p → ¬ Spans p e.pass) → Stands log (viewed known stage) → Stands (log ++ e ∷ []) (viewed known stage)
 stands_push log e known Idle idle apart st = record { fits = fits_push log known e st.fits apart; pairs = st.pairs; stage = tt }
 stands_push log e known (Waiting t) idle apart st = record { fits = fits_push log known e st.fits apart; pairs = st.pairs; stage = st.stage }
 stands_push log e known (Turn t) idle apart st = absurd (omega arith)
@@ -201,11 +201,11 @@ stands_push log e known (Met a b) idle apart st =
       );
     }
 
-held_in : Held → List (ℕ × Option Held) → Option Held
+held_in : InSlot → List (ℕ × Option InSlot) → Option InSlot
 held_in x [] = Some x
 held_in x (c ∷ cs) = c.1
 
-same_held : (x y : Held) → ◌≡◌ {A = List (ℕ × Option Held)} ((0, Some x) ∷ []) ((0, Some y) ∷ []) → x ≡ y
+same_held : (x y : InSlot) → ◌≡◌ {A = List (ℕ × Option InSlot)} ((0, Some x) ∷ []) ((0, Some y) ∷ []) → x ≡ y
 unfolding held_in
 same_held x y is = let e : Some x ≡ Some y = ap (held_in x) is in cc (e)
 
@@ -218,7 +218,7 @@ owns : (log : List Entry) (known : Known) → IsPartOf log known → Owns log kn
 owns log known fits k e there j p at cover = (fits.knows k e there j p at cover).0
 
 -- the entry is made, where the history is what the seat has seen
-module _ (id t : ℕ) (seen : List Entry) (kin : List (ℕ × ℕ)) (x : Held) (early : t < 2 ^ 62) (may : IsLegal (seen ++ entry_by kin x ∷ [])) (stands : StandsFor x.ledger.value (seen ++ entry_by kin x ∷ [])) where
+module _ (id t : ℕ) (seen : List Entry) (kin : List (ℕ × ℕ)) (x : InSlot) (early : t < 2 ^ 62) (may : IsLegal (seen ++ entry_by kin x ∷ [])) (stands : StandsFor x.ledger.value (seen ++ entry_by kin x ∷ [])) where
   abbrev made : Entry
   made = entry_by kin x
 
@@ -228,7 +228,7 @@ module _ (id t : ℕ) (seen : List Entry) (kin : List (ℕ × ℕ)) (x : Held) (
   abbrev after : View
   after = viewed (knowing (seen ++ made ∷ []) kin) Idle
 
-  enters_kept : (words : List ℕ) (homes : List (maybe.Option (Option Held))) (views : List View) → length homes ≡ 1 → Kept words homes views seen → get_elem? views id ≡ some before
+  enters_kept : (words : List ℕ) (homes : List (maybe.Option (Option InSlot))) (views : List View) → length homes ≡ 1 → Kept words homes views seen → get_elem? views id ≡ some before
       → Kept (slice_set words 0 ((slice_index words 0 + 1) % 2 ^ 64)) (slice_set homes 0 (some (Some x))) (set views id after) (seen ++ made ∷ [])
   enters_kept words homes views len kept at =
       let was = kept.each id before at in
@@ -243,10 +243,10 @@ module _ (id t : ℕ) (seen : List Entry) (kin : List (ℕ × ℕ)) (x : Held) (
       let cons = was.stage.2 in
       let last : (n + 1) % 18446744073709551616 ≡ length (seen ++ made ∷ []) = mod-eq_of_lt (omega arith) ∙ (let h : n + 1 ≡ length (seen ++ made ∷ []) = omega arith in h) in
       let same : L + T ≡ length (seen ++ made ∷ []) + T' = omega arith in
-      let once : (z : ℕ) → total (pairs_covering z) views ≡ 1 = kept.covered in
+      let once : (z : ℕ) → total (pairs_spanning z) views ≡ 1 = kept.covered in
       let own = own_counts kin cons was.pairs in
       let others : (j : ℕ) (u : View) → j ≢ id → get_elem? views j ≡ some u → Stands (seen ++ made ∷ []) u = λ j u apart there.
-      let two = total_two (pairs_covering (first_pair kin).0) views id j before u apart at there in
+      let two = total_two (pairs_spanning (first_pair kin).0) views id j before u apart at there in
       let all = once (first_pair kin).0 in
       let tickets = total_two (has_ticket t) views id j before u apart at there in
       let mine : has_ticket t before ≡ 1 = one_same t in
@@ -270,7 +270,7 @@ module _ (id t : ℕ) (seen : List Entry) (kin : List (ℕ × ℕ)) (x : Held) (
             let f : one_if (eqb t z) ≡ one_if (eqb L z) = ap (λ (k : ℕ). one_if (eqb k z)) place in
             omega arith;
         slot = λ none. (x, one_home homes (Some x) len, stands);
-        covered = λ z. let a = total_set (pairs_covering z) views id before after at in let b = kept.covered z in omega arith;
+        covered = λ z. let a = total_set (pairs_spanning z) views id before after at in let b = kept.covered z in omega arith;
         weighed = let a = total_set weight views id before after at in let b = kept.weighed in omega arith;
         each = each_set (seen ++ made ∷ []) views id after others record {
           fits = record {
@@ -279,8 +279,8 @@ module _ (id t : ℕ) (seen : List Entry) (kin : List (ℕ × ℕ)) (x : Held) (
               ⊎_elim
                   (λ (l : slice_get seen k ≡ Some e). (was.fits.knows k e l j p is cover).0)
                   (λ (r : (k ≡ L) × (made ≡ e)).
-                  let cover' : Covers p (first_pair kin).0 = subst (λ (z : Entry). Covers p z.pass) (sym r.1) cover in
-                  let few : total (covering (first_pair kin).0) kin ≤ 1 = let m = total_member (pairs_covering (first_pair kin).0) views id before at in let o = once (first_pair kin).0 in omega arith in
+                  let cover' : Spans p (first_pair kin).0 = subst (λ (z : Entry). Spans p z.pass) (sym r.1) cover in
+                  let few : total (spanning (first_pair kin).0) kin ≤ 1 = let m = total_member (pairs_spanning (first_pair kin).0) views id before at in let o = once (first_pair kin).0 in omega arith in
                   sym (ap (λ (z : Entry). z.pass) r.1) ∙ ap (λ (z : ℕ × ℕ). z.0) (sym (own_pair kin cons was.pairs few j p is cover')))
                   (get_push seen made e k there),
               slice_get_within (seen ++ made ∷ []) k e there,
@@ -305,12 +305,12 @@ module _ (id t : ℕ) (seen : List Entry) (kin : List (ℕ × ℕ)) (x : Held) (
         gives,
         tt,
         (seen ++ made ∷ [], enters_kept s.words s.homes s.views len here at),
-        λ y is. (
-          served_is s.words s.homes s.views seen here,
-          ap (λ (z : Held). (viewed (knowing (seen ++ entry_by kin z ∷ []) kin) Idle, [])) (same_held x y is),
-          subst (λ (z : Held). Owns (seen ++ entry_by kin z ∷ []) kin) (same_held x y is)
-              (owns (seen ++ made ∷ []) after.known ((enters_kept s.words s.homes s.views len here at).each id after (set_there s.views id before after at)).fits),
-        ),
+        λ y is. record {
+          place = served_is s.words s.homes s.views seen here;
+          seat = ap (λ (z : InSlot). (viewed (knowing (seen ++ entry_by kin z ∷ []) kin) Idle, [])) (same_held x y is);
+          own = subst (λ (z : InSlot). Owns (seen ++ entry_by kin z ∷ []) kin) (same_held x y is)
+              (owns (seen ++ made ∷ []) after.known ((enters_kept s.words s.homes s.views len here at).each id after (set_there s.views id before after at)).fits);
+        },
       )
 
 pub splits : (id : ℕ) (known : Known) → IsCons known.kin → (first_pair known.kin).1 ≤ 2 ^ 61 → Splits Ruled id (viewed known Idle) (left (viewed known Idle)) (right (viewed known Idle))
@@ -331,7 +331,7 @@ splits id known cons room s r at =
         legal = kept.legal;
         tickets = λ z. both (has_ticket z) refl ∙ (kept.tickets z ∙ ap (λ (k : ℕ). between (length log) (length log + k) z) (sym same));
         slot = λ idle. kept.slot (sym (both has_turn refl) ∙ idle);
-        covered = λ z. both (pairs_covering z) (kept_counts z known.kin cons was.pairs) ∙ kept.covered z;
+        covered = λ z. both (pairs_spanning z) (kept_counts z known.kin cons was.pairs) ∙ kept.covered z;
         weighed = both weight (kept_weight known.kin was.pairs room) ∙ kept.weighed;
         each = λ j u e. ⊎_elim
             (λ (there : get_elem? vs j ≡ some u). each_set log s.views id l (λ i x _ e'. kept.each i x e')
@@ -377,7 +377,7 @@ joins id other a b s r at apart at' =
         legal = kept.legal;
         tickets = λ z. both (has_ticket z) refl ∙ (kept.tickets z ∙ ap (λ (k : ℕ). between (length log) (length log + k) z) (sym same));
         slot = λ idle. kept.slot (sym (both has_turn refl) ∙ idle);
-        covered = λ z. both (pairs_covering z) (let h = total_append (covering z) a.kin b.kin in omega arith) ∙ kept.covered z;
+        covered = λ z. both (pairs_spanning z) (let h = total_append (spanning z) a.kin b.kin in omega arith) ∙ kept.covered z;
         weighed = both weight (let h = total_append part a.kin b.kin in omega arith) ∙ kept.weighed;
         each = each_set log vs other spent
             (λ j x _ e. each_set log s.views id w (λ i y _ e'. kept.each i y e')
@@ -422,7 +422,7 @@ learns id known a b s r len at fits =
           legal = kept.legal;
           tickets = λ z. stays (has_ticket z) refl ∙ (kept.tickets z ∙ ap (λ (k : ℕ). between L (L + k) z) (sym still));
           slot = λ idle. kept.slot (sym (stays has_turn refl) ∙ idle);
-          covered = λ z. stays (pairs_covering z) refl ∙ kept.covered z;
+          covered = λ z. stays (pairs_spanning z) refl ∙ kept.covered z;
           weighed = stays weight refl ∙ kept.weighed;
           each = each_set log s.views id w (λ j u _ e. kept.each j u e) record { fits = whole log known was.fits; pairs = was.pairs; stage = tt };
         },
@@ -430,7 +430,7 @@ learns id known a b s r len at fits =
       record { slots = refl; stage = refl; kin = refl; legal = kept.legal; own = owns log known was.fits; both = (grows log a was.stage.0, grows log b was.stage.1); few = kept.small },
     )
 
-pub starts : (x : Held) → StandsFor x.ledger.value [] → Ruled (opening (0 ∷ 0 ∷ []) (Some x ∷ []) first_view)
+pub starts : (x : InSlot) → StandsFor x.ledger.value [] → Ruled (opening (0 ∷ 0 ∷ []) (Some x ∷ []) first_view)
 starts x stands = (
   [],
   record {

@@ -6,25 +6,25 @@ use Rattle.hsm_auth.specs.History.{IsLegal}
 use Rattle.hsm_desk.specs.declared.view.Known.{Known}
 use Rattle.hsm_desk.specs.Totals.{one_if}
 
--- the pair covers the numbers that leave its number when divided by its step
-abbrev pub Covers : ℕ × ℕ → ℕ → Type 0
-Covers p x = x % p.1 ≡ p.0
+-- the pair spans the numbers that leave its number when divided by its step
+abbrev pub Spans : ℕ × ℕ → ℕ → Type 0
+Spans p x = x % p.1 ≡ p.0
 
--- some pair of the kin covers the number
-abbrev pub IsCovered : List (ℕ × ℕ) → ℕ → Type 0
-IsCovered kin x = (j : ℕ) × (p : ℕ × ℕ) × (slice_get kin j ≡ Some p) × Covers p x
+-- some pair of the kin spans the number
+abbrev pub IsSpanned : List (ℕ × ℕ) → ℕ → Type 0
+IsSpanned kin x = (j : ℕ) × (p : ℕ × ℕ) × (slice_get kin j ≡ Some p) × Spans p x
 
--- no pair of the kin covers the number
-abbrev pub IsUncovered : List (ℕ × ℕ) → ℕ → Type 0
-IsUncovered kin x = (j : ℕ) (p : ℕ × ℕ) → slice_get kin j ≡ Some p → ¬ Covers p x
+-- no pair of the kin spans the number
+abbrev pub IsUnspanned : List (ℕ × ℕ) → ℕ → Type 0
+IsUnspanned kin x = (j : ℕ) (p : ℕ × ℕ) → slice_get kin j ≡ Some p → ¬ Spans p x
 
--- each pair of the kin that covers the number is of this sort
-abbrev pub EachCovering : List (ℕ × ℕ) → ℕ → (ℕ × ℕ → Type 0) → Type 0
-EachCovering kin x Such = (j : ℕ) (p : ℕ × ℕ) → slice_get kin j ≡ Some p → Covers p x → Such p
+-- each pair of the kin that spans the number is of this sort
+abbrev pub EachSpanning : List (ℕ × ℕ) → ℕ → (ℕ × ℕ → Type 0) → Type 0
+EachSpanning kin x Such = (j : ℕ) (p : ℕ × ℕ) → slice_get kin j ≡ Some p → Spans p x → Such p
 
--- 1 where the pair covers the number, and else 0
-abbrev pub covering : ℕ → ℕ × ℕ → ℕ
-covering x p = one_if (x % p.1 == p.0)
+-- 1 where the pair spans the number, and else 0
+abbrev pub spanning : ℕ → ℕ × ℕ → ℕ
+spanning x p = one_if (x % p.1 == p.0)
 
 -- a pair's part of all numbers, of 2 ^ 62
 abbrev pub part : ℕ × ℕ → ℕ
@@ -47,13 +47,13 @@ abbrev pub first_pair : List (ℕ × ℕ) → ℕ × ℕ
 first_pair [] = (0, 0)
 first_pair (p ∷ ps) = p
 
--- each entry of the log whose number a pair covers has the pair's own number, and was seen
+-- each entry of the log whose number a pair spans has the pair's own number, and was seen
 abbrev pub Knows : List Entry → List Entry → List (ℕ × ℕ) → Type 0
-Knows log seen kin = (k : ℕ) (e : Entry) → slice_get log k ≡ Some e → EachCovering kin e.pass (λ p. (e.pass ≡ p.0) × (k < length seen))
+Knows log seen kin = (k : ℕ) (e : Entry) → slice_get log k ≡ Some e → EachSpanning kin e.pass (λ p. (e.pass ≡ p.0) × (k < length seen))
 
--- each entry whose number a pair covers has the pair's own number
+-- each entry whose number a pair spans has the pair's own number
 abbrev pub Owns : List Entry → List (ℕ × ℕ) → Type 0
-Owns seen kin = (k : ℕ) (e : Entry) → slice_get seen k ≡ Some e → EachCovering kin e.pass (λ p. e.pass ≡ p.0)
+Owns seen kin = (k : ℕ) (e : Entry) → slice_get seen k ≡ Some e → EachSpanning kin e.pass (λ p. e.pass ≡ p.0)
 
 -- what holds of each pass
 pub record IsSound (seen : List Entry) (kin : List (ℕ × ℕ)) : Type 0 where
@@ -63,12 +63,12 @@ pub record IsSound (seen : List Entry) (kin : List (ℕ × ℕ)) : Type 0 where
   pub first : IsCons kin
   pub few : length seen ≤ 2 ^ 62
 
--- the history went on, by entries whose numbers the kin does not cover
+-- the history went on, by entries whose numbers the kin does not span
 pub record Grows (kin : List (ℕ × ℕ)) (was new : List Entry) : Type 0 where
   pub begins : IsPrefix was new
-  pub apart : (k : ℕ) (e : Entry) → length was ≤ k → slice_get new k ≡ Some e → IsUncovered kin e.pass
+  pub apart : (k : ℕ) (e : Entry) → length was ≤ k → slice_get new k ≡ Some e → IsUnspanned kin e.pass
 
--- what is known is part of the log: its beginning, with all entries whose numbers the kin covers
+-- what is known is part of the log: its beginning, with all entries whose numbers the kin spans
 pub record IsPartOf (log : List Entry) (known : Known) : Type 0 where
   pub begins : IsPrefix known.seen log
   pub knows : Knows log known.seen known.kin

@@ -7,7 +7,7 @@ use Rattle.hsm_auth.specs.declared.entry.Granted.{Granted}
 use Rattle.hsm_auth.specs.declared.entry.Entry.{Entry}
 use Rattle.hsm_auth.specs.History.{entry, outcome}
 use Rattle.hsm_auth.specs.Own.{own}
-use Rattle.hsm_desk.specs.Kin.{IsCovered, EachCovering, Grows, IsSound, first_pair, kept_kin, new_kin}
+use Rattle.hsm_desk.specs.Kin.{IsSpanned, EachSpanning, Grows, IsSound, first_pair, kept_kin, new_kin}
 
 -- a pass: the desk that it belongs to, the history that it has seen, and its kin, which begins with its own number and step
 pub record PassView : Type 0 where
@@ -23,19 +23,19 @@ number p = (first_pair p.kin).0
 abbrev pub step : PassView → ℕ
 step p = (first_pair p.kin).1
 
--- what each pass keeps: its history is legal and of at most 2 ^ 62 entries, its pairs are pairs, and each entry whose number a pair covers has the pair's own number
+-- what each pass keeps: its history is legal and of at most 2 ^ 62 entries, its pairs are pairs, and each entry whose number a pair spans has the pair's own number
 abbrev pub Sound : PassView → Type 0
 Sound p = IsSound p.seen p.kin
 
--- the pairs of its kin cover every number
+-- the pairs of its kin span every number
 abbrev pub IsWhole : PassView → Type 0
-IsWhole p = (x : ℕ) → IsCovered p.kin x
+IsWhole p = (x : ℕ) → IsSpanned p.kin x
 
 -- the number of each entry that was seen is that of a pair of the kin
 abbrev pub OnlyKin : PassView → Type 0
 OnlyKin p = (k : ℕ) (e : Entry) → slice_get p.seen k ≡ Some e → (j : ℕ) × (q : ℕ × ℕ) × (slice_get p.kin j ≡ Some q) × (e.pass ≡ q.0)
 
--- one booking: its entry stands last; between what the pass had seen and it stand only entries whose numbers the kin does not cover
+-- one booking: its entry stands last; between what the pass had seen and it stand only entries whose numbers the kin does not span
 pub record Books (p q : PassView) (moment : ℕ) (ask : Ask) (granted : Granted) (place : ℕ) : Type 0 where
   pub others : List Entry
   pub apart : Grows p.kin p.seen (p.seen ++ others)
@@ -50,13 +50,13 @@ pub record Books (p q : PassView) (moment : ℕ) (ask : Ask) (granted : Granted)
 abbrev pub OwnBooked : PassView → PassView → ℕ → Ask → Granted → ℕ → Type 0
 OwnBooked p q moment ask granted place = own (number p) q.seen ≡ own (number p) p.seen ++ (place, entry (number p) moment ask granted) ∷ []
 
--- The pass made just these entries, in this order: its number and its kin stayed, and its history went on. The other entries that came are of numbers that its kin does not cover.
+-- The pass made just these entries, in this order: its number and its kin stayed, and its history went on. The other entries that came are of numbers that its kin does not span.
 pub record Makes (p q : PassView) (entries : List (ℕ × Entry)) : Type 0 where
   pub desk : q.desk ≡ p.desk
   pub kin : q.kin ≡ p.kin
   pub begins : IsPrefix p.seen q.seen
   pub own : own (number p) q.seen ≡ own (number p) p.seen ++ entries
-  pub apart : (k : ℕ) (e : Entry) → length p.seen ≤ k → slice_get q.seen k ≡ Some e → EachCovering p.kin e.pass (λ _. e.pass ≡ number p)
+  pub apart : (k : ℕ) (e : Entry) → length p.seen ≤ k → slice_get q.seen k ≡ Some e → EachSpanning p.kin e.pass (λ _. e.pass ≡ number p)
   pub sound : Sound q
 
 -- the first pass of a desk: it has seen nothing, its number is 0 and its step 1

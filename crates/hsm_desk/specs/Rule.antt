@@ -9,11 +9,11 @@ use Rattle.hsm_auth.specs.declared.entry.Entry.{Entry}
 use Rattle.hsm_auth.specs.History.{entry, IsLegal, StandsFor}
 use Rattle.hsm_desk.specs.declared.view.Known.{Known}
 use Rattle.hsm_desk.specs.declared.view.View.{View}
-use Rattle.hsm_desk.specs.declared.view.Held.{Held}
+use Rattle.hsm_desk.specs.declared.view.InSlot.{InSlot}
 use Rattle.hsm_desk.specs.declared.view.Stage.{Stage}
 use Rattle.hsm_desk.specs.declared.view.Stage.TheVariants.{Idle, Waiting, Turn, Met}
 use Rattle.hsm_desk.specs.Totals.{total, one_if, between}
-use Rattle.hsm_desk.specs.Kin.{covering, part, IsKin, IsCons, first_pair, Owns, Grows, IsPartOf, kept_kin, new_kin}
+use Rattle.hsm_desk.specs.Kin.{spanning, part, IsKin, IsCons, first_pair, Owns, Grows, IsPartOf, kept_kin, new_kin}
 
 abbrev pub knowing : List Entry → List (ℕ × ℕ) → Known
 knowing seen kin = record { seen = seen; kin = kin }
@@ -49,9 +49,9 @@ has_ticket x v = ticket_at x v.stage
 abbrev pub has_turn : View → ℕ
 has_turn v = turn_at v.stage
 
--- how many pairs of the seat's kin cover the number
-abbrev pub pairs_covering : ℕ → View → ℕ
-pairs_covering x v = total (covering x) v.known.kin
+-- how many pairs of the seat's kin span the number
+abbrev pub pairs_spanning : ℕ → View → ℕ
+pairs_spanning x v = total (spanning x) v.known.kin
 
 abbrev pub weight : View → ℕ
 weight v = total part v.known.kin
@@ -67,24 +67,24 @@ pub record Stands (log : List Entry) (v : View) : Type 0 where
   pub pairs : IsKin v.known.kin
   pub stage : AtStage log v.known v.stage
 
-pub record Kept (words : List ℕ) (homes : List (maybe.Option (Option Held))) (views : List View) (log : List Entry) : Type 0 where
+pub record Kept (words : List ℕ) (homes : List (maybe.Option (Option InSlot))) (views : List View) (log : List Entry) : Type 0 where
   pub words_are : words ≡ length log ∷ (length log + total waits views) ∷ []
   pub small : length log ≤ 2 ^ 62
   pub legal : IsLegal log
   pub tickets : (t : ℕ) → total (has_ticket t) views ≡ between (length log) (length log + total waits views) t
-  pub slot : total has_turn views ≡ 0 → (x : Held) × (homes ≡ some (Some x) ∷ []) × StandsFor x.ledger.value log
-  pub covered : (x : ℕ) → total (pairs_covering x) views ≡ 1
+  pub slot : total has_turn views ≡ 0 → (x : InSlot) × (homes ≡ some (Some x) ∷ []) × StandsFor x.ledger.value log
+  pub covered : (x : ℕ) → total (pairs_spanning x) views ≡ 1
   pub weighed : total weight views ≡ 2 ^ 62
   pub each : (id : ℕ) (v : View) → get_elem? views id ≡ some v → Stands log v
 
-abbrev pub Ruled : State (Option Held) View → Type 0
+abbrev pub Ruled : State (Option InSlot) View → Type 0
 Ruled s = (log : List Entry) × Kept s.words s.homes s.views log
 
 abbrev pub first_view : View
 first_view = viewed (knowing [] ((0, 1) ∷ [])) Idle
 
 abbrev pub Seated : Type 0
-Seated = Me (Option Held) View
+Seated = Me (Option InSlot) View
 
 -- a ticket was drawn
 abbrev pub Draws : Seated → ℕ → Seated → Type 0
@@ -103,10 +103,10 @@ pub record Takes (m m' : Seated) : Type 0 where
   pub grows : Grows m.0.known.kin m.0.known.seen m'.0.known.seen
   pub place : length m'.0.known.seen ≡ ticket_of m.0.stage
   pub legal : IsLegal m'.0.known.seen
-  pub slot : (x : Held) × (m'.1 ≡ (0, Some x) ∷ []) × StandsFor x.ledger.value m'.0.known.seen
+  pub slot : (x : InSlot) × (m'.1 ≡ (0, Some x) ∷ []) × StandsFor x.ledger.value m'.0.known.seen
 
 -- the turn came, and what lay in the slot was taken out
-pub record Has (ticket : ℕ) (m m' : Seated) (x : Held) : Type 0 where
+pub record Has (ticket : ℕ) (m m' : Seated) (x : InSlot) : Type 0 where
   pub stage : m'.0.stage ≡ Turn ticket
   pub kin : m'.0.known.kin ≡ m.0.known.kin
   pub grows : Grows m.0.known.kin m.0.known.seen m'.0.known.seen
@@ -118,12 +118,22 @@ pub record Has (ticket : ℕ) (m m' : Seated) (x : Held) : Type 0 where
 abbrev pub Awaits : Seated → ℕ → Seated → Type 0
 Awaits m n m' = (n ≡ ticket_of m.0.stage → Takes m m') × (n ≢ ticket_of m.0.stage → m' ≡ m)
 
-abbrev pub entry_by : List (ℕ × ℕ) → Held → Entry
+abbrev pub entry_by : List (ℕ × ℕ) → InSlot → Entry
 entry_by kin x = entry (first_pair kin).0 x.moment x.ask.value x.granted.value
 
--- the entry was made
+-- what the seat knows once the entry of what lies in the slot stands last
+abbrev pub seen_with : Seated → InSlot → List Entry
+seen_with m x = m.0.known.seen ++ entry_by m.0.known.kin x ∷ []
+
+-- The entry of what lies in the slot was made, at the place n.
+pub record Entered (x : InSlot) (m : Seated) (n : ℕ) (m' : Seated) : Type 0 where
+  pub place : n ≡ length m.0.known.seen
+  pub seat : m' ≡ (viewed (knowing (seen_with m x) m.0.known.kin) Idle, [])
+  pub own : Owns (seen_with m x) m.0.known.kin
+
+-- what an entry of the seat does, whatever it put into the slot
 abbrev pub Enters : Seated → ℕ → Seated → Type 0
-Enters m n m' = (x : Held) → m.1 ≡ (0, Some x) ∷ [] → (n ≡ length m.0.known.seen) × (m' ≡ (viewed (knowing (m.0.known.seen ++ entry_by m.0.known.kin x ∷ []) m.0.known.kin) Idle, [])) × Owns (m.0.known.seen ++ entry_by m.0.known.kin x ∷ []) m.0.known.kin
+Enters m n m' = (x : InSlot) → m.1 ≡ (0, Some x) ∷ [] → Entered x m n m'
 
 abbrev pub GrowsBoth : Stage → List Entry → Type 0
 GrowsBoth Idle seen = Unit {0}

@@ -13,7 +13,7 @@ ghost use Rattle.hsm_auth.specs.Own.{own};
 ghost use Rattle.hsm_desk.specs.Passes.{number, step, IsWhole, OnlyKin, Sound, Books, OwnBooked, Meets, KeepsOwn, first_pass, kept_pass, new_pass};
 
 use crate::plays::{Await, Draw, Enter, Kin, Learn, Turns};
-use crate::view::{Held, View};
+use crate::view::{InSlot, View};
 use atomic_table::{Seat, Table};
 use hsm_auth::{Ask, Granted, Ledger};
 use hsm_io::Clock;
@@ -32,9 +32,9 @@ const TICKETS: usize = 1;
 // A call that draws this ticket or a later one does not return.
 const NEVER_SERVED: u64 = 1 << 62;
 
-type Board = Table<Option<Held>, View, (), Turns, Global>;
+type Board = Table<Option<InSlot>, View, (), Turns, Global>;
 
-type Place = Seat<Option<Held>, View>;
+type Place = Seat<Option<InSlot>, View>;
 
 /// A ledger that threads share. Contracts see which desk it is.
 #[derive(Drop)]
@@ -59,7 +59,7 @@ impl Model for Desk {
 }
 
 /// A seat at a desk, with which one thread books. Contracts see the history that it has seen, and its kin:
-/// pairs of a number and a step, the first of which is its own. A pair covers the numbers that leave its number
+/// pairs of a number and a step, the first of which is its own. A pair spans the numbers that leave its number
 /// when divided by its step.
 #[derive(Drop)]
 pub struct Pass {
@@ -86,7 +86,7 @@ pub struct Booked {
     pub granted: Granted,
 }
 
-impl Held {
+impl InSlot {
     // Steps the ledger, and keeps of what the entry is made.
     fn step(&mut self, moment: u64, ask: &Ask) -> Granted
         requires moment { moment ≤ 2 ^ 40 }
@@ -124,7 +124,7 @@ impl Desk {
         ensures sound { IfOk result (λ d. Sound d.1) }
     {
         let ledger = Box::new(alloc, ledger)?;
-        let held = Held {
+        let held = InSlot {
             ledger,
             moment: 0,
             ask: Snapshot::of(&Ask::Look),
@@ -206,7 +206,7 @@ impl Desk {
     }
 
     // Takes what lies in the slot, once the ticket is served.
-    fn take<R: Wait>(&self, rt: &R, seat: &mut Place, ticket: u64) -> Held
+    fn take<R: Wait>(&self, rt: &R, seat: &mut Place, ticket: u64) -> InSlot
         requires desk { seat.old.table_id ≡ self.now }
         requires waiting { (seat.old.me.0.stage ≡ Waiting ticket) × (seat.old.me.1 ≡ []) }
         ensures desk { seat.new.table_id ≡ seat.old.table_id }
@@ -220,7 +220,7 @@ impl Desk {
     }
 
     // Puts it back, and passes the turn on.
-    fn enter(&self, seat: &mut Place, held: Held, ticket: u64) -> u64
+    fn enter(&self, seat: &mut Place, held: InSlot, ticket: u64) -> u64
         requires desk { seat.old.table_id ≡ self.now }
         requires turn { (seat.old.me.0.stage ≡ Turn ticket) × (seat.old.me.1 ≡ (0, None) ∷ []) × (ticket < 2 ^ 62) }
         requires entry { IsLegal (seat.old.me.0.known.seen ++ entry_by seat.old.me.0.known.kin held ∷ []) × StandsFor held.ledger.value (seat.old.me.0.known.seen ++ entry_by seat.old.me.0.known.kin held ∷ []) }

@@ -1,11 +1,11 @@
 //! The desk's rule, and what each step tells. These types are for the proofs alone.
-use crate::view::{Held, View};
+use crate::view::{InSlot, View};
 use atomic_table::{Join, Play, Split, TableRule};
 
 /// The rule.
 pub struct Turns;
 
-impl TableRule<Option<Held>, View, ()> for Turns {
+impl TableRule<Option<InSlot>, View, ()> for Turns {
     ghost use Rattle.hsm_desk.specs.Rule.{Ruled, first_view};
 
     ghost holds = { λ _. Ruled };
@@ -16,7 +16,7 @@ impl TableRule<Option<Held>, View, ()> for Turns {
 // A ticket was drawn.
 pub(crate) struct Draw;
 
-impl Play<Option<Held>, View> for Draw {
+impl Play<Option<InSlot>, View> for Draw {
     ghost use Rattle.hsm_desk.specs.Rule.{Draws};
 
     ghost then = { λ _. Draws };
@@ -25,7 +25,7 @@ impl Play<Option<Held>, View> for Draw {
 // The turn came, or it did not.
 pub(crate) struct Await;
 
-impl Play<Option<Held>, View> for Await {
+impl Play<Option<InSlot>, View> for Await {
     ghost use Rattle.hsm_desk.specs.Rule.{Awaits};
 
     ghost then = { λ _. Awaits };
@@ -34,7 +34,7 @@ impl Play<Option<Held>, View> for Await {
 // The entry was made, and the turn passed on.
 pub(crate) struct Enter;
 
-impl Play<Option<Held>, View> for Enter {
+impl Play<Option<InSlot>, View> for Enter {
     ghost use Rattle.hsm_desk.specs.Rule.{Enters};
 
     ghost then = { λ _. Enters };
@@ -43,7 +43,7 @@ impl Play<Option<Held>, View> for Enter {
 // A pass that took in another has seen the whole history.
 pub(crate) struct Learn;
 
-impl Play<Option<Held>, View> for Learn {
+impl Play<Option<InSlot>, View> for Learn {
     ghost use Rattle.hsm_desk.specs.Rule.{Learns};
 
     ghost then = { λ _ m _. Learns m };

@@ -28,7 +28,7 @@ pub struct View {
 
 /// What lies in the slot: the ledger, with what the last entry was made of.
 #[derive(Drop)]
-pub struct Held {
+pub struct InSlot {
     pub ledger: Box<Ledger>,
     pub moment: u64,
     pub ask: Snapshot<Ask>,

@@ -1,11 +1,11 @@
 // Connections in memory, served over a desk of their own, under set E1.
 use arrayvec::ArrayVec;
-use hsm_auth::Ledger;
+use hsm_auth::{Ledger, Place};
 use hsm_desk::Desk;
 use hsm_frame::Frames;
 use hsm_io::{MemClock, MemLink, OpenGate};
 use hsm_laboratory::{Set, module_of};
-use hsm_session::{ConnEnd, Kind, Report, Tools, least_message, serve_link};
+use hsm_session::{ConnEnd, Report, Tools, least_message, serve_link};
 use hsm_text::Reply;
 use std::alloc::{Alloc, Global};
 use std::process::Abort;
@@ -42,7 +42,7 @@ fn serves(rt: &(impl Abort + Alloc<A = Global> + Wait), case: &Case) -> Result<(
         pass,
         clock: MemClock::new(moments),
         gate: OpenGate,
-        frames: Frames::open(alloc, least_message(&module, Kind::Host))?,
+        frames: Frames::open(alloc, least_message(&module, Place::Host))?,
         reply: Reply::new(),
         out: ArrayVec::new(),
         lane: 1,
@@ -55,7 +55,7 @@ fn serves(rt: &(impl Abort + Alloc<A = Global> + Wait), case: &Case) -> Result<(
         case.bad_reads.to_vec(alloc)?,
         case.bad_writes.to_vec(alloc)?,
     )?;
-    let report = serve_link(rt, &module, &desk, Kind::Host, &mut tools, &mut link);
+    let report = serve_link(rt, &module, &desk, Place::Host, &mut tools, &mut link);
     let told = Report {
         ended: case.ended,
         messages: case.messages,

@@ -2,12 +2,12 @@
 ghost use Rattle.std.specs.Prelude.{◌≡◌, false, None};
 
 use arrayvec::ArrayVec;
-use hsm_auth::Ledger;
+use hsm_auth::{Ledger, Place};
 use hsm_desk::Desk;
 use hsm_frame::Frames;
 use hsm_io::{Got, Link, MemClock, OpenGate, Put};
 use hsm_laboratory::{Set, module_of};
-use hsm_session::{ConnEnd, Kind, Tools, least_message, serve_link};
+use hsm_session::{ConnEnd, Tools, least_message, serve_link};
 use hsm_text::Reply;
 use std::alloc::{Alloc, Global};
 use std::process::Abort;
@@ -59,7 +59,7 @@ fn offers(rt: &(impl Abort + Alloc<A = Global> + Wait)) -> Result<(), Fail> {
         pass,
         clock: MemClock::new(moments),
         gate: OpenGate,
-        frames: Frames::open(alloc, least_message(&module, Kind::Host))?,
+        frames: Frames::open(alloc, least_message(&module, Place::Host))?,
         reply: Reply::new(),
         out: ArrayVec::new(),
         lane: 1,
@@ -69,7 +69,7 @@ fn offers(rt: &(impl Abort + Alloc<A = Global> + Wait)) -> Result<(), Fail> {
         offered: ArrayVec::new(),
         written: ArrayVec::new(),
     };
-    let report = serve_link(rt, &module, &desk, Kind::Host, &mut tools, &mut link);
+    let report = serve_link(rt, &module, &desk, Place::Host, &mut tools, &mut link);
     assert_eq!(rt; (report.ended, report.messages), (ConnEnd::Clean, 1));
     assert_eq!(rt; link.written.as_slice(), b"\x00\x08AAAAAB68".as_slice());
     // A frame takes 65,537 bytes at most, which is one more than 16 times 4,096.

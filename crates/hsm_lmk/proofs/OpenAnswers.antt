@@ -1,14 +1,13 @@
 -- What opening a text answers, as a function.
-use Rattle.std.proofs.Common.{◌≡◌, ℕ, zero, suc, ◌%◌, ◌∙◌, Bool, true, false, ◌&&◌, List, [], ◌∷◌, refl, sym, ap, arith}
-use Rattle.std.specs.Prelude.{All, Result, Ok, Err, count_ones}
+use Rattle.std.proofs.Common.{◌≡◌, ℕ, zero, suc, ◌∙◌, Bool, true, false, ◌&&◌, List, [], ◌∷◌, refl, sym, ap, arith}
+use Rattle.std.specs.Prelude.{All, Result, Ok, Err}
 use Rattle.std.specs.Bool.{Decides}
 use Rattle.std.specs.List.{list_all}
-use Rattle.std.proofs.lemmas.Bool.Decides.{Decides-eqb}
-use Rattle.hsm_parity.specs.Parity.{IsOdd}
+use Rattle.hsm_parity.specs.Parity.{IsOdd, has_odd_parity}
 use Rattle.hsm_types.specs.declared.types.Scheme.{Scheme}
 use Rattle.hsm_lmk.specs.Opening.{Opens}
 use Rattle.hsm_lmk.specs.Pairs.{AllOdd}
-use Rattle.hsm_lmk.specs.Opened.{opened, all_odd, has_odd_parity, open_answer}
+use Rattle.hsm_lmk.specs.Opened.{opened, all_odd, open_answer}
 use Rattle.hsm_lmk.specs.declared.OpenFault.{OpenFault}
 use Rattle.hsm_lmk.specs.declared.OpenFault.TheVariants as fault
 use Rattle.hsm_lmk.proofs.OpenedLaws.{opens_to_sealed}
@@ -36,7 +35,7 @@ from_All P p dec (x ∷ xs) all =
     and-both (p x) (list_all p xs) ((dec x).1 (all zero x (omega arith))) (from_All P p dec xs (λ i d h. all (suc i) d (omega arith)))
 
 odd_byte : (byte : ℕ) → Decides (has_odd_parity byte) (IsOdd byte)
-odd_byte byte = Decides-eqb (count_ones byte % 2) 1
+odd_byte byte = (λ h. h, λ h. h)
 
 odd_part : (part : List ℕ) → Decides (list_all has_odd_parity part) (All IsOdd part)
 odd_part part = (to_All IsOdd has_odd_parity odd_byte part, from_All IsOdd has_odd_parity odd_byte part)

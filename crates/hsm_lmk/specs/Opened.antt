@@ -1,7 +1,8 @@
 -- The text of a key and the key of a text, as functions: what the relation `Sealed` relates.
-use Rattle.std.specs.Prelude.{ℕ, zero, suc, ◌+◌, ◌%◌, ◌==◌, Bool, not, if◌then◌else◌, Result, Ok, Err, List, [], ◌∷◌, ◌++◌, take, drop, count_ones}
+use Rattle.std.specs.Prelude.{ℕ, zero, suc, ◌+◌, Bool, not, if◌then◌else◌, Result, Ok, Err, List, [], ◌∷◌, ◌++◌, take, drop}
 use Rattle.std.specs.List.{list_all}
 use Rattle.std.specs.Int.{w64, to_be_bytes}
+use Rattle.hsm_parity.specs.Parity.{has_odd_parity}
 use Rattle.hsm_tdes.specs.Tdes.{enciphered, deciphered}
 use Rattle.hsm_types.specs.Schemes.{scheme_parts}
 use Rattle.hsm_types.specs.declared.types.Scheme.{Scheme}
@@ -26,10 +27,6 @@ opened_from w s i (suc n) text = to_be_bytes w64 (deciphered (under w s i) (bloc
 -- the key that the text is under w in the scheme
 unfoldable pub opened : List (List ℕ) → Scheme → List ℕ → List (List ℕ)
 opened w s text = opened_from w s 0 (scheme_parts s) text
-
--- the number of one bits is odd
-abbrev pub has_odd_parity : ℕ → Bool
-has_odd_parity byte = count_ones byte % 2 == 1
 
 -- every byte of every part is odd
 unfoldable pub all_odd : List (List ℕ) → Bool

@@ -10,10 +10,10 @@ use Rattle.hsm_auth.specs.Own.{own}
 use Rattle.hsm_answers.specs.Clear.{Authorises, IsGrantedAt, ShowsClear}
 use Rattle.hsm_answers.specs.Messages.{Side, console, message_ask}
 use Rattle.hsm_rows.specs.declared.settings.Module.{Module}
-use Rattle.hsm_session.specs.declared.plans.Kind.TheVariants.{Host}
-use Rattle.hsm_session.specs.Connections.{AuthoriseNothing, IsEntryFor, is_authorise}
+use Rattle.hsm_auth.specs.declared.activity.Place.TheVariants.{Host}
+use Rattle.hsm_session.specs.Connections.{AuthoriseNothing, IsEntryFor, asks_authorisation}
 use Rattle.hsm_session.specs.Plans.{side_of}
-use Rattle.hsm_server.specs.Lanes.{IsServed, Served, all_entries, kind_of}
+use Rattle.hsm_server.specs.Lanes.{IsServed, Served, all_entries, place_of}
 use Rattle.hsm_program.proofs.Lists.{index_at, within}
 use Rattle.hsm_program.specs.Headline.{IsAnsweredAt, IsByOfficers, ShowsGranted}
 
@@ -79,8 +79,8 @@ all_at P xs k x all at = subst P (index_at xs k x x at) (all k x (within xs k x 
 -- what is known of each lane: its entries are those of its connections, with what their messages ask, and a host's authorise nothing
 pub record Known (m : Module) (history : List Entry) (number : ℕ) (served : List Served) : Type 0 where
   pub entries : own number history ≡ all_entries served
-  pub each : All (IsServed m (kind_of number)) served
-  pub hosts : kind_of number ≡ Host → AuthoriseNothing (all_entries served)
+  pub each : All (IsServed m (place_of number)) served
+  pub hosts : place_of number ≡ Host → AuthoriseNothing (all_entries served)
 
 -- what is known of all lanes
 pub record AllKnown (m : Module) (history : List Entry) (connections : List (List Served)) : Type 0 where
@@ -104,14 +104,14 @@ ClearWhereGranted = (m : Module) (side : Side) (message : List ℕ) (h : List En
     → IsLegal h → slice_get h i ≡ Some e → e.ask ≡ message_ask m side message
     → (s : ShowsClear m side message e.granted) → IsGrantedAt s.row s.read h i e
 
-is_asked : (ask : Ask) (activity : Activity) (minutes : ℕ) → ask ≡ Authorise activity minutes → is_authorise ask ≡ true
-is_asked ask activity minutes is = ap is_authorise is
+is_asked : (ask : Ask) (activity : Activity) (minutes : ℕ) → ask ≡ Authorise activity minutes → asks_authorisation ask ≡ true
+is_asked ask activity minutes is = ap asks_authorisation is
 
 not_zero : (n : ℕ) → (suc n == 0) ≡ false
 not_zero n = search rules
 
-of_host : (n : ℕ) → kind_of (suc n) ≡ Host
-of_host n = let e : kind_of (suc n) ≡ Host = rw (not_zero n) refl in e
+of_host : (n : ℕ) → place_of (suc n) ≡ Host
+of_host n = let e : place_of (suc n) ≡ Host = rw (not_zero n) refl in e
 
 -- an entry that authorises is the console's
 console_number : (m : Module) (history : List Entry) (served : List Served) (number j place : ℕ) (entry : Entry) (activity : Activity) (minutes : ℕ) → Known m history number served
@@ -132,9 +132,9 @@ by_officers every words m history connections place entry activity minutes known
     let zero_is : entry.pass ≡ 0 = console_number m history lane.0 entry.pass mine.0 place entry activity minutes of_lane mine.1 asks in
     let w = within_joined (λ (served : Served). served.entries) lane.0 mine.0 (place, entry)
     (ap (λ (entries : List (ℕ × Entry)). slice_get entries mine.0) (sym of_lane.entries) ∙ mine.1) in
-    let served : IsServed m (kind_of entry.pass) w.from = all_at (IsServed m (kind_of entry.pass)) lane.0 w.at w.from of_lane.each w.there in
-    let message = zip_other (IsEntryFor m (side_of (kind_of entry.pass))) w.from.messages w.from.entries w.index (place, entry) served.each w.here in
-    let of_console : message_ask m console message.0 ≡ entry.ask = sym (message.2 ∙ ap (λ (n : ℕ). message_ask m (side_of (kind_of n)) message.0) zero_is) in (
+    let served : IsServed m (place_of entry.pass) w.from = all_at (IsServed m (place_of entry.pass)) lane.0 w.at w.from of_lane.each w.there in
+    let message = zip_other (IsEntryFor m (side_of (place_of entry.pass))) w.from.messages w.from.entries w.index (place, entry) served.each w.here in
+    let of_console : message_ask m console message.0 ≡ entry.ask = sym (message.2 ∙ ap (λ (n : ℕ). message_ask m (side_of (place_of n)) message.0) zero_is) in (
       zero_is,
       record {
         message = message.0;
@@ -155,13 +155,13 @@ by_officers every words m history connections place entry activity minutes known
 -- the entry at which a message was answered stands at its place in the history, and has what the message asks
 answered_there : OwnThere → (m : Module) (history : List Entry) (connections : List (List Served)) (number : ℕ) (message : List ℕ) (place : ℕ) (entry : Entry)
     → AllKnown m history connections → IsAnsweredAt connections number message place entry
-    → (slice_get history place ≡ Some entry) × (entry.ask ≡ message_ask m (side_of (kind_of number)) message)
+    → (slice_get history place ≡ Some entry) × (entry.ask ≡ message_ask m (side_of (place_of number)) message)
 answered_there there m history connections number message place entry known a =
     let of_lane = known.lanes number a.lane a.lane_there in
-    let served : IsServed m (kind_of number) a.served = all_at (IsServed m (kind_of number)) a.lane a.connection a.served of_lane.each a.served_there in
+    let served : IsServed m (place_of number) a.served = all_at (IsServed m (place_of number)) a.lane a.connection a.served of_lane.each a.served_there in
     let j = joined_within (λ (served : Served). served.entries) a.lane a.connection a.served a.index (place, entry) a.served_there a.entry_there in
     let mine = there number history j.0 place entry (ap (λ (entries : List (ℕ × Entry)). slice_get entries j.0) of_lane.entries ∙ j.1) in
-    (mine.0, zip_both (IsEntryFor m (side_of (kind_of number))) a.served.messages a.served.entries a.index message (place, entry) served.each a.message_there a.entry_there)
+    (mine.0, zip_both (IsEntryFor m (side_of (place_of number))) a.served.messages a.served.entries a.index message (place, entry) served.each a.message_there a.entry_there)
 
 pub clear_fields : OwnThere → OwnEvery → WordsAuthorise → ClearWhereGranted → (m : Module) (history : List Entry) (connections : List (List Served))
     → AllKnown m history connections → ShowsGranted m connections history
@@ -169,7 +169,7 @@ clear_fields there every words clear m history connections known = record {
   console = λ place entry activity minutes at asks. by_officers every words m history connections place entry activity minutes known at asks;
   granted = λ number message place entry answered shows.
       let here = answered_there there m history connections number message place entry known answered in
-      let g = clear m (side_of (kind_of number)) message history place entry known.legal here.0 here.1 shows in
+      let g = clear m (side_of (place_of number)) message history place entry known.legal here.0 here.1 shows in
       record {
         at_entry = g;
         by_officers = (by_officers every words m history connections g.giver g.given.entry g.grant.activity g.given.minutes known g.given.there g.given.asks).1;

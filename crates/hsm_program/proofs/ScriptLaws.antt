@@ -12,7 +12,7 @@ use Rattle.hsm_session.specs.declared.script.ScriptFault.{ScriptFault}
 use Rattle.hsm_session.specs.declared.script.ScriptFault.TheVariants.{Out}
 use Rattle.hsm_session.specs.Clear.{IsByOfficers}
 use Rattle.hsm_session.specs.Scripts.{Said, script_of}
-use Rattle.hsm_session.specs.Runs.{RunAnswers, Told}
+use Rattle.hsm_session.specs.Runs.{RunAnswers, IsRunOf}
 use Rattle.hsm_program.specs.Files.{file_limit}
 use Rattle.hsm_program.specs.Runs.{AnswersScript, IsRun, ShowsGranted, status_of}
 use Rattle.hsm_program.specs.declared.outcome.Outcome.{Outcome}
@@ -24,20 +24,20 @@ no_entries_are_legal = λ i e is. absurd (cc)
 -- a run of a script that reads goes on in a legal history
 abbrev pub LegalRuns : Type 0
 LegalRuns = (m : Module) (h : List Entry) (script : List ℕ) (lines : List Said) (last : List Entry) (text : List ℕ) (over : ScriptEnd)
-    → script_of m.hosts script ≡ Ok lines → Told m h lines last text over → IsLegal h → IsLegal last
+    → script_of m.hosts script ≡ Ok lines → IsRunOf m h lines last text over → IsLegal h → IsLegal last
 
 -- each authorisation of a run is by officers' words
 abbrev pub OfficersInRuns : Type 0
 OfficersInRuns = (m : Module) (h : List Entry) (lines : List Said) (last : List Entry) (text : List ℕ) (over : ScriptEnd)
-    → Told m h lines last text over → (i : ℕ) (e : Entry) (activity : Activity) (minutes : ℕ) → length h ≤ i
+    → IsRunOf m h lines last text over → (i : ℕ) (e : Entry) (activity : Activity) (minutes : ℕ) → length h ≤ i
     → slice_get last i ≡ Some e → e.ask ≡ Authorise activity minutes → IsByOfficers m lines last i activity minutes
 
 -- what is shown in the clear was granted, in each run from the opening ledger
 abbrev pub ClearInRuns : Type 0
-ClearInRuns = (m : Module) (lines : List Said) (last : List Entry) (text : List ℕ) (over : ScriptEnd) → Told m [] lines last text over → ShowsGranted m lines last
+ClearInRuns = (m : Module) (lines : List Said) (last : List Entry) (text : List ℕ) (over : ScriptEnd) → IsRunOf m [] lines last text over → ShowsGranted m lines last
 
 run_is : LegalRuns → OfficersInRuns → ClearInRuns → (m : Module) (bytes : List ℕ) (lines : List Said) (last : List Entry) (text : List ℕ) (over : ScriptEnd)
-    → script_of m.hosts bytes ≡ Ok lines → Told m [] lines last text over → IsRun m lines last text over
+    → script_of m.hosts bytes ≡ Ok lines → IsRunOf m [] lines last text over → IsRun m lines last text over
 run_is legal officers clear m bytes lines last text over reads told = record {
   told = told;
   legal = legal m [] bytes lines last text over reads told no_entries_are_legal;

@@ -9,7 +9,7 @@ use Rattle.hsm_config.specs.Configs.{module_of, ports_of}
 use Rattle.hsm_desk.specs.Passes.{PassView, IsWhole, OnlyKin, number}
 use Rattle.hsm_io.specs.Sides.{DoorSide, SeedSide}
 use Rattle.hsm_rows.specs.declared.settings.Module.{Module}
-use Rattle.hsm_server.specs.Lanes.{EachLane, IsReady, LaneState, LaneView, Ran, kind_of, message_count}
+use Rattle.hsm_server.specs.Lanes.{EachLane, IsReady, LaneState, LaneView, Ran, place_of, message_count}
 use Rattle.hsm_session.specs.Plans.{least_for}
 use Rattle.hsm_program.specs.Headline.{Setting, module_in}
 use Rattle.hsm_program.specs.Lanes.{AreJoined, AreLanes, IsNewLane, IsSpan, seat, step_of}
@@ -154,7 +154,7 @@ ready m accept moments to_come ports desk lanes are k lane at =
     let port = item_at ports k (let h = within lanes k lane at in omega (arith, h, are.count)) in
     let new = are.each k port.0 lane port.1 at in
     record {
-      least = new.least ∙ ap (λ (n : ℕ). least_for m (kind_of n)) (sym new.numbered);
+      least = new.least ∙ ap (λ (n : ℕ). least_for m (place_of n)) (sym new.numbered);
       of_desk = ap (λ (p : PassView). p.desk) new.seated;
       none_out = new.none_out;
       no_report = new.no_report;

@@ -12,7 +12,7 @@ use Rattle.hsm_io.specs.Outside.{HasCause}
 use Rattle.hsm_rows.specs.declared.settings.Module.{Module}
 use Rattle.hsm_session.specs.declared.serving.Report.{Report}
 use Rattle.hsm_session.specs.Connections.{AuthoriseNothing, HaveMoments}
-use Rattle.hsm_server.specs.Lanes.{IsServed, IsToldBy, LaneState, LaneView, Ran, Served, Tells, all_entries, all_reports, bytes_of, fault_count, kind_of, message_count, risen}
+use Rattle.hsm_server.specs.Lanes.{IsServed, IsToldBy, LaneState, LaneView, Ran, Served, TakesConnections, all_entries, all_reports, bytes_of, fault_count, place_of, message_count, risen}
 use Rattle.hsm_program.specs.Headline.{Headline, IsHeard, IsWritten, LaneHears, LaneRuns, OfEach, ServesInOrder, Setting, WhereTold, module_in}
 use Rattle.hsm_program.specs.Lanes.{IsNewLane}
 use Rattle.hsm_program.specs.Serving.{HasCauses, IsNamed}
@@ -31,7 +31,7 @@ OwnTotal = (k : ℕ) (h : List Entry) → MadeBelow k h → length h ≡ own_tot
 -- what a lane's door told, and tells in the end
 record Tolds (m : Module) (k : ℕ) (came : List (List ℕ)) (connections : List Served) (door : Doorway) : Type 0 where
   order : came ≡ map bytes_of door.taken ++ door.to_come
-  each : AllZip (IsToldBy m (kind_of k)) connections door.taken
+  each : AllZip (IsToldBy m (place_of k)) connections door.taken
 
 -- one lane that served from the start
 pub record OneLane (setting : Setting) (history : List Entry) (k port : ℕ) (pass : PassView) (before after : LaneState) : Type 0 where
@@ -67,13 +67,13 @@ told_of : (setting : Setting) (history : List Entry) (k port : ℕ) (pass : Pass
 told_of setting history k port pass before after one came is =
     let m = module_in setting in
     let told = one.ran.served.told (record { to_come = came; taken = [] }) (one.new.doorway came is) in
-    let tells : Tells m (kind_of before.number) (record { to_come = came; taken = [] }) told.0 one.ran.connections = told.2 in (
+    let tells : TakesConnections m (place_of before.number) (record { to_come = came; taken = [] }) told.0 one.ran.connections = told.2 in (
       told.0,
       told.1,
       record {
         order = tells.came ∙ ap (λ (taken : List Taken). map bytes_of taken ++ told.0.to_come) (sym tells.taken);
-        each = subst (λ (taken : List Taken). AllZip (IsToldBy m (kind_of k)) one.ran.connections taken) (sym tells.taken)
-            (subst (λ (n : ℕ). AllZip (IsToldBy m (kind_of n)) one.ran.connections tells.ended) one.new.numbered tells.each);
+        each = subst (λ (taken : List Taken). AllZip (IsToldBy m (place_of k)) one.ran.connections taken) (sym tells.taken)
+            (subst (λ (n : ℕ). AllZip (IsToldBy m (place_of n)) one.ran.connections tells.ended) one.new.numbered tells.each);
       },
     )
 
@@ -84,12 +84,12 @@ lane_runs setting history k port pass before after one =
     let entries = entries_of setting history k port pass before after one in
     record {
       entries = entries;
-      each = subst (λ (n : ℕ). All (IsServed m (kind_of n)) one.ran.connections) one.new.numbered one.ran.served.each;
+      each = subst (λ (n : ℕ). All (IsServed m (place_of n)) one.ran.connections) one.new.numbered one.ran.served.each;
       reports = reports_of setting history k port pass before after one;
       moments = λ c is. subst (HaveMoments c) (sym entries) (one.ran.served.clock.told c (one.new.clock ∙ is)).0;
       written = λ came is.
           let t = told_of setting history k port pass before after one came is in
-          (t.0, t.1, zip_map (IsToldBy m (kind_of k)) (IsWritten m k) one.ran.connections t.0.taken (λ served taken told. told.talks.says) t.2.each);
+          (t.0, t.1, zip_map (IsToldBy m (place_of k)) (IsWritten m k) one.ran.connections t.0.taken (λ served taken told. told.talks.says) t.2.each);
     }
 
 pub lane_hears : (setting : Setting) (history : List Entry) (k port : ℕ) (pass : PassView) (before after : LaneState) (one : OneLane setting history k port pass before after)
@@ -97,7 +97,7 @@ pub lane_hears : (setting : Setting) (history : List Entry) (k port : ℕ) (pass
 lane_hears setting history k port pass before after one = λ came is.
     let m = module_in setting in
     let t = told_of setting history k port pass before after one came is in
-    (t.0, t.1, zip_map (IsToldBy m (kind_of k)) (IsHeard m k) one.ran.connections t.0.taken (λ served taken told. record { messages = told.talks.hears; left = told.talks.leaves }) t.2.each)
+    (t.0, t.1, zip_map (IsToldBy m (place_of k)) (IsHeard m k) one.ran.connections t.0.taken (λ served taken told. record { messages = told.talks.hears; left = told.talks.leaves }) t.2.each)
 
 pub lane_in_order : (setting : Setting) (history : List Entry) (k port : ℕ) (pass : PassView) (before after : LaneState) (one : OneLane setting history k port pass before after)
     → ServesInOrder setting k port (view_of after) one.ran.connections
@@ -108,7 +108,7 @@ lane_in_order setting history k port pass before after one =
       order = λ came is. let t = told_of setting history k port pass before after one came is in (t.0, t.1, t.2.order);
       counted = λ came is.
           let t = told_of setting history k port pass before after one came is in
-          (t.0, t.1, zip_length (IsToldBy m (kind_of k)) one.ran.connections t.0.taken t.2.each);
+          (t.0, t.1, zip_length (IsToldBy m (place_of k)) one.ran.connections t.0.taken t.2.each);
       all = λ clean came is.
           let t = told_of setting history k port pass before after one came is in
           (t.0, t.1, subst (λ (n : ℕ). (t.0.to_come ≡ []) ⊎ (length one.ran.connections ≡ n)) one.new.accepts (one.ran.complete (false_is clean) t.0 t.1));
@@ -129,7 +129,7 @@ lane_causes setting history k port pass before after one =
             t.0,
             t.1,
             subst (λ (rs : List Report). AllZip IsNamed rs t.0.taken) (sym reports)
-                (zip_of_map (λ (served : Served). served.report) (IsToldBy m (kind_of k)) IsNamed one.ran.connections t.0.taken (λ served taken told. told.failed) t.2.each),
+                (zip_of_map (λ (served : Served). served.report) (IsToldBy m (place_of k)) IsNamed one.ran.connections t.0.taken (λ served taken told. told.failed) t.2.each),
           );
     }
 
@@ -288,9 +288,9 @@ known setting pass seats before after all =
           let runs = lane_runs setting pass.seen k port.0 s.seat s.first s.last s.one in
           record {
             entries = runs.entries ∙ ap all_entries s.same;
-            each = subst (λ (c : List Served). All (IsServed m (kind_of k)) c) s.same runs.each;
+            each = subst (λ (c : List Served). All (IsServed m (place_of k)) c) s.same runs.each;
             hosts = λ host.
-                subst (λ (c : List Served). AuthoriseNothing (all_entries c)) s.same (s.one.ran.served.hosts (ap kind_of s.one.new.numbered ∙ host));
+                subst (λ (c : List Served). AuthoriseNothing (all_entries c)) s.same (s.one.ran.served.hosts (ap place_of s.one.new.numbered ∙ host));
           };
     }
 

@@ -19,8 +19,8 @@ use Rattle.hsm_io.specs.Connections.{Doorway, Taken}
 use Rattle.hsm_rows.specs.declared.settings.Module.{Module}
 use Rattle.hsm_rows.specs.Reading.{ReadText}
 use Rattle.hsm_rows.specs.Table.{RowShape}
-use Rattle.hsm_server.specs.Lanes.{IsServed, LaneView, Served, all_entries, all_reports, bytes_of, kind_of, message_count}
-use Rattle.hsm_session.specs.Connections.{HaveMoments, Hears, Leaves, Says, framed_answers}
+use Rattle.hsm_server.specs.Lanes.{IsServed, LaneView, Served, all_entries, all_reports, bytes_of, place_of, message_count}
+use Rattle.hsm_session.specs.Connections.{HaveMoments, Hears, Leaves, WritesAnswers, framed_answers}
 use Rattle.hsm_session.specs.Plans.{least_for, side_of}
 use Rattle.hsm_config.specs.Configs.{ports_of}
 
@@ -55,13 +55,13 @@ pub record IsOneHistory (pass : PassView) : Type 0 where
 -- What was written to a connection are the framed answers to its messages, at their entries; after a failed write a part from their front.
 abbrev pub IsWritten : Module → ℕ → Served → Taken → Type 0
 IsWritten m number served taken =
-    Says taken.traffic.written (framed_answers m (side_of (kind_of number)) served.messages served.entries) served.report.ended
+    WritesAnswers taken.traffic.written (framed_answers m (side_of (place_of number)) served.messages served.entries) served.report.ended
 
 -- Each lane: it booked with its own number. The entries of that number are those of its connections' messages, one for each, in their order, with what
 -- the message asks, at the moments that its clock was to give; and each connection was written the answers at these entries.
 pub record LaneRuns (setting : Setting) (history : List Entry) (number port : ℕ) (lane : LaneView) (served : List Served) : Type 0 where
   pub entries : own number history ≡ all_entries served
-  pub each : All (IsServed (module_in setting) (kind_of number)) served
+  pub each : All (IsServed (module_in setting) (place_of number)) served
   pub reports : lane.reports ≡ all_reports served
   pub moments : (c : List ℕ) → setting.moments ≡ Some c → HaveMoments c (own number history)
   pub written : WhereTold (setting.to_come port) lane (λ came door. AllZip (IsWritten (module_in setting) number) served door.taken)
@@ -73,7 +73,7 @@ pub record HasNoOther (lanes : List LaneView) (history : List Entry) : Type 0 wh
 
 -- The bytes read from a connection are its messages, framed, and end as its report says; where its input ended nothing is left to read.
 pub record IsHeard (m : Module) (number : ℕ) (served : Served) (taken : Taken) : Type 0 where
-  pub messages : Hears (least_for m (kind_of number)) taken.traffic.was_read served.messages served.report.ended
+  pub messages : Hears (least_for m (place_of number)) taken.traffic.was_read served.messages served.report.ended
   pub left : Leaves taken.traffic.left served.report.ended
 
 -- Messages: those of a connection are the messages of the bytes that were read.
@@ -116,7 +116,7 @@ pub record ShowsGranted (m : Module) (connections : List (List Served)) (history
   pub console : (place : ℕ) (entry : Entry) (activity : Activity) (minutes : ℕ) → slice_get history place ≡ Some entry → entry.ask ≡ Authorise activity minutes
       → (entry.pass ≡ 0) × IsByOfficers m connections place entry activity minutes
   pub granted : (number : ℕ) (message : List ℕ) (place : ℕ) (entry : Entry) → IsAnsweredAt connections number message place entry
-      → (s : ShowsClear m (side_of (kind_of number)) message entry.granted) → IsGrantedBy m connections history place entry s.row s.read
+      → (s : ShowsClear m (side_of (place_of number)) message entry.granted) → IsGrantedBy m connections history place entry s.row s.read
 
 -- The theorem in six parts, for the connections that each lane served.
 pub record Headline (setting : Setting) (lanes : List LaneView) (pass : PassView) : Type 0 where

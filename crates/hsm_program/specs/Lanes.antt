@@ -9,7 +9,7 @@ use Rattle.hsm_io.specs.Sides.{DoorSide}
 use Rattle.hsm_rows.specs.declared.settings.Module.{Module}
 use Rattle.hsm_server.specs.declared.lane.Lane.{Lane}
 use Rattle.hsm_server.specs.declared.lane.LaneEnd.{LaneEnd}
-use Rattle.hsm_server.specs.Lanes.{LaneState, kind_of}
+use Rattle.hsm_server.specs.Lanes.{LaneState, place_of}
 use Rattle.hsm_session.specs.Plans.{least_for}
 use Rattle.hsm_program.specs.declared.lanes.LanesFault.{LanesFault}
 use Rattle.hsm_program.specs.declared.lanes.LanesFault.TheVariants.{Memory, Door}
@@ -46,7 +46,7 @@ IsUnasked to_come doorway = (came : List (List ℕ)) → to_come ≡ Some came �
 pub record IsNewLane (m : Module) (accept : ℕ) (moments : Option (List ℕ)) (to_come : Option (List (List ℕ))) (number : ℕ) (pass : PassView) (lane : LaneState) : Type 0 where
   pub numbered : lane.number ≡ number
   pub accepts : lane.accept ≡ accept
-  pub least : lane.least ≡ least_for m (kind_of number)
+  pub least : lane.least ≡ least_for m (place_of number)
   pub seated : lane.pass ≡ pass
   pub clock : lane.moments ≡ moments
   pub doorway : IsUnasked to_come lane.doorway

@@ -15,7 +15,7 @@ use Rattle.hsm_answers.specs.Messages.{Side}
 use Rattle.hsm_auth.specs.declared.activity.Activity.{Activity}
 use Rattle.hsm_auth.specs.declared.entry.Ask.TheVariants.{Authorise}
 use Rattle.hsm_session.specs.Clear.{IsByOfficers, IsEntryOf, IsGranted}
-use Rattle.hsm_session.specs.Runs.{Told}
+use Rattle.hsm_session.specs.Runs.{IsRunOf}
 use Rattle.hsm_program.specs.Files.{file_limit}
 use Rattle.hsm_program.specs.Words.{Asked, usage, serve, script, check, explain}
 use Rattle.hsm_config.specs.Configs.{config_in}
@@ -109,7 +109,7 @@ ShowsGranted m lines history =
 -- A run of these lines from the opening ledger comes to this legal history, prints this text and ends so. Each authorisation in it is by a
 -- console text of the script with both officers' words, and what is shown in the clear is shown under a grant so given.
 pub record IsRun (m : Module) (lines : List Said) (last : List Entry) (text : List ℕ) (over : ScriptEnd) : Type 0 where
-  pub told : Told m [] lines last text over
+  pub told : IsRunOf m [] lines last text over
   pub legal : IsLegal last
   pub authorised : AuthorisedByOfficers m lines last
   pub granted : ShowsGranted m lines last

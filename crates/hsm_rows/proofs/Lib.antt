@@ -6,5 +6,7 @@ pub mod Refusals
 pub mod PlaceLemmas
 pub mod RowLemmas
 pub mod TextForms
+pub mod KeyForms
+pub mod TextsBack
 pub mod StandingTexts
 pub mod ConsoleStands

@@ -15,7 +15,7 @@ use Rattle.hsm_text.specs.KeyTexts.{scheme_of}
 use Rattle.hsm_text.specs.Sizes.{only_if, run_size, take_size, one_of_size, tagged_size, key_size, hex_size}
 use Rattle.hsm_text.specs.declared.keys.KeyForm.TheVariants as key
 use Rattle.hsm_rows.specs.Forms.{when, account_size, filled_size, validation_size, data_size, hex_value, hex_or_n, is_n, is_f, lengths, two_digit_value}
-use Rattle.hsm_rows.specs.Standing.{AreDigits, IsLength, IsAccount, IsFilled, IsValidation, IsCount, IsData}
+use Rattle.hsm_rows.specs.Standing.{AreDigits, IsOneOf, IsLength, IsAccount, IsFilled, IsValidation, IsCount, IsData}
 use Rattle.hsm_rows.proofs.Within.{and_left, and_right}
 
 only_some : (b : Bool) (k n : ℕ) → only_if b k ≡ Some n → (b ≡ true) × (k ≡ n)
@@ -23,7 +23,7 @@ only_some true k n h = (refl, cc)
 only_some false k n h = let z : ⊥ = cc in absurd z
 
 -- the front of a text before its rest
-front : (t rest : List ℕ) (n : ℕ) → n ≡ length t → take n (t ++ rest) ≡ t
+pub front : (t rest : List ℕ) (n : ℕ) → n ≡ length t → take n (t ++ rest) ≡ t
 front t rest n h = ap (λ (k : ℕ). take k (t ++ rest)) h ∙ take-append_seam t rest
 
 -- a run of characters that pass the test
@@ -33,7 +33,7 @@ run_text test k t rest h =
     let s = only_some (nat_le k (length (t ++ rest)) && list_all test (take k (t ++ rest))) k (length t) h in
     (sym s.1, ap (list_all test) (sym (front t rest k s.1)) ∙ and_right (nat_le k (length (t ++ rest))) _ s.0)
 
-starts_text : (t rest w : List ℕ) → starts_with nat_eq (t ++ rest) w ≡ true → length w ≡ length t → t ≡ w
+pub starts_text : (t rest w : List ℕ) → starts_with nat_eq (t ++ rest) w ≡ true → length w ≡ length t → t ≡ w
 starts_text [] rest [] h e = refl
 starts_text [] rest (y ∷ ys) h e = let z : ⊥ = omega arith in absurd z
 starts_text (x ∷ xs) rest [] h e = let z : ⊥ = omega arith in absurd z
@@ -54,39 +54,58 @@ one_of_text P [] t rest p h = let z : ⊥ = cc in absurd z
 one_of_text P (w ∷ ws) t rest p h =
     one_of_by P w [] t rest (starts_with nat_eq (t ++ rest) w) (one_of_size ws (t ++ rest)) p.0 (one_of_text P ws t rest p.1) refl h
 
-a_length : (t : List ℕ) → AreDigits 2 t → 4 ≤ two_digit_value t → two_digit_value t ≤ 12 → IsLength t
-a_length t d l m = record { digits = d; least = l; most = m }
+member_more : (w : List ℕ) (ws xs : List (List ℕ)) → AllByRecursion (IsOneOf ws) xs → AllByRecursion (IsOneOf (w ∷ ws)) xs
+member_more w ws [] h = tt
+member_more w ws (x ∷ xs) h = (inr h.0, member_more w ws xs h.1)
+
+members : (ws : List (List ℕ)) → AllByRecursion (IsOneOf ws) ws
+members [] = tt
+members (w ∷ ws) = (inl refl, member_more w ws ws (members ws))
+
+pub one_of_is : (ws : List (List ℕ)) (t rest : List ℕ) → one_of_size ws (t ++ rest) ≡ Some (length t) → IsOneOf ws t
+one_of_is ws t rest h = one_of_text (IsOneOf ws) ws t rest (members ws) h
+
+pub each_of : (P : List ℕ → Type 0) (ws : List (List ℕ)) (t : List ℕ) → AllByRecursion P ws → IsOneOf ws t → P t
+each_of P [] t all h = absurd h
+each_of P (w ∷ ws) t all (inl e) = subst P (sym e) all.0
+each_of P (w ∷ ws) t all (inr h) = each_of P ws t all.1 h
+
+-- the facts of a PIN's length
+abbrev IsTwoDigits : List ℕ → Type 0
+IsTwoDigits t = AreDigits 2 t × ((4 ≤ two_digit_value t) × (two_digit_value t ≤ 12))
+
+length_facts : AllByRecursion IsTwoDigits lengths
+unfolding lengths
+length_facts = (
+  ((refl, refl), (omega arith, omega arith)),
+  (
+    ((refl, refl), (omega arith, omega arith)),
+    (
+      ((refl, refl), (omega arith, omega arith)),
+      (
+        ((refl, refl), (omega arith, omega arith)),
+        (
+          ((refl, refl), (omega arith, omega arith)),
+          (
+            ((refl, refl), (omega arith, omega arith)),
+            (
+              ((refl, refl), (omega arith, omega arith)),
+              (((refl, refl), (omega arith, omega arith)), (((refl, refl), (omega arith, omega arith)), tt)),
+            ),
+          ),
+        ),
+      ),
+    ),
+  ),
+)
 
 -- a PIN's length
 pub length_text : (t rest : List ℕ) → one_of_size lengths (t ++ rest) ≡ Some (length t) → IsLength t
 unfolding lengths
 length_text t rest h =
-    one_of_text IsLength lengths t rest (
-      a_length (codes "04") (refl, refl) (omega arith) (omega arith),
-      (
-        a_length (codes "05") (refl, refl) (omega arith) (omega arith),
-        (
-          a_length (codes "06") (refl, refl) (omega arith) (omega arith),
-          (
-            a_length (codes "07") (refl, refl) (omega arith) (omega arith),
-            (
-              a_length (codes "08") (refl, refl) (omega arith) (omega arith),
-              (
-                a_length (codes "09") (refl, refl) (omega arith) (omega arith),
-                (
-                  a_length (codes "10") (refl, refl) (omega arith) (omega arith),
-                  (
-                    a_length (codes "11") (refl, refl) (omega arith) (omega arith),
-                    (a_length (codes "12") (refl, refl) (omega arith) (omega arith), tt),
-                  ),
-                ),
-              ),
-            ),
-          ),
-        ),
-      ),
-    )
-    h
+    let o = one_of_is lengths t rest h in
+    let f = each_of IsTwoDigits lengths t length_facts o in
+    record { text = o; digits = f.0; least = f.1.0; most = f.1.1 }
 
 passed_by : (p : ℕ → Bool) (x : ℕ) (xs : List ℕ) (b : Bool) → p x ≡ b → list_all p (take (prefix_len p xs) xs) ≡ true → list_all p (take (cond b (1 + prefix_len p xs) 0) (x ∷ xs)) ≡ true
 passed_by p x xs true h more = let e : 1 + prefix_len p xs ≡ suc (prefix_len p xs) = omega arith in rw e (rw h more)

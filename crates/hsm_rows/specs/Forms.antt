@@ -1,12 +1,13 @@
 -- The one size of a text of a field's form at the front of what is left, given the texts of the earlier fields; none where no such text stands there.
-use Rattle.std.specs.Prelude.{ℕ, Bool, false, not, ◌&&◌, ◌||◌, ◌+◌, ◌-◌, ◌*◌, ◌%◌, ◌==◌, nat_eq, nat_le, if◌then◌else◌, List, [], ◌∷◌, length, take, drop, Option, Some, None, is_some, codes, slice_index_or, count_by}
+use Rattle.std.specs.Prelude.{ℕ, Bool, false, not, ◌&&◌, ◌||◌, ◌+◌, ◌-◌, ◌*◌, ◌%◌, ◌==◌, nat_eq, nat_le, if◌then◌else◌, List, [], ◌∷◌, length, take, drop, map, Option, Some, None, is_some, codes, slice_index_or, count_by}
 use Rattle.std.specs.List.{list_all, prefix_len, starts_with}
 use Rattle.std.specs.Char.{is_ascii_digit, is_ascii_hexdigit}
 use Rattle.std.specs.Str.{bytes_eq}
 use Rattle.std.specs.Borrow.{Bor}
 use Rattle.hsm_nibbles.specs.Characters.{digit_value}
-use Rattle.hsm_auth.specs.declared.entry.TheConstants.{MAX_MINUTES}
 use Rattle.hsm_auth.specs.Activities.{activity_of}
+use Rattle.hsm_types.specs.Table.{code_of}
+use Rattle.hsm_types.specs.Table as table
 use Rattle.hsm_text.specs.Sizes.{only_if, digits_size, hex_size, take_size, word_size, one_of_size, key_size}
 use Rattle.hsm_text.specs.declared.keys.KeyForm.{KeyForm}
 use Rattle.hsm_text.specs.declared.keys.KeyForm.TheVariants as key
@@ -99,12 +100,12 @@ is_visible c = nat_le 33 c && nat_le c 126
 abbrev pub is_word : List ℕ → Bool
 is_word text = nat_le 1 (length text) && (nat_le (length text) 64 && list_all is_visible text)
 
--- a decimal number of at most the longest grant, without leading zeros
+-- a decimal number of at most 720, without leading zeros
 abbrev pub is_minutes : List ℕ → Bool
 is_minutes text =
     bytes_eq text (codes "0")
     || (((nat_le 1 (length text) && nat_le (length text) 4) && list_all is_ascii_digit text)
-    && (not (starts_with nat_eq text (codes "0")) && nat_le (decimal_from 0 text) MAX_MINUTES))
+    && (not (starts_with nat_eq text (codes "0")) && nat_le (decimal_from 0 text) 720))
 
 -- an activity
 abbrev pub is_activity : List ℕ → Bool
@@ -116,7 +117,7 @@ is_activity_or_star text = bytes_eq text (codes "*") || is_activity text
 
 -- the codes of the key types
 unfoldable pub types : List (List ℕ)
-types = codes "000" ∷ codes "001" ∷ codes "002" ∷ codes "402" ∷ codes "003" ∷ codes "008" ∷ codes "009" ∷ codes "00A" ∷ codes "00B" ∷ []
+types = map code_of table.types
 
 -- FF, and the codes of the LMK pairs of the key types
 unfoldable pub pair_codes : List (List ℕ)

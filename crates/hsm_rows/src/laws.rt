@@ -1,13 +1,13 @@
 //! Laws of the table and of reading.
-ghost use Rattle.std.specs.Prelude.{◌≡◌, ◌≤◌, ◌↔◌, ℕ, List, Ok, Err, Some, length, true, false};
+ghost use Rattle.std.specs.Prelude.{◌≡◌, ◌≤◌, ◌↔◌, ◌++◌, ℕ, List, Ok, Err, Some, length, true, false};
 ghost use Rattle.std.specs.List.{list_all};
 ghost use Rattle.hsm_rows.specs.declared.row.Form.{Form};
 ghost use Rattle.hsm_rows.specs.declared.row.Code.{Code};
 ghost use Rattle.hsm_rows.specs.Forms.{size};
 ghost use Rattle.hsm_rows.specs.Table.{RowShape, all_rows, row_A, row_FK};
 ghost use Rattle.hsm_rows.specs.Bounds.{has_few_fields, has_few_needs};
-ghost use Rattle.hsm_rows.specs.Reading.{ReadText, reading, RowReads, RowRefuses, is_console};
-ghost use Rattle.hsm_rows.specs.Standing.{TextsStand, AreTexts};
+ghost use Rattle.hsm_rows.specs.Reading.{ReadText, reading, RowReads, RowRefuses, Stands, is_console};
+ghost use Rattle.hsm_rows.specs.Standing.{TextsStand, AreTexts, AreTextsOrAbsent, IsText, MayFollow};
 ghost use Rattle.hsm_rows.specs.ConsoleStanding.{AuthorisationStands, ComponentsStand};
 ghost use Rattle.hsm_rows.specs.Clear.{OnlyNgAndGcShow, MarksAreShown, NgNeeds, GcNeeds};
 
@@ -23,10 +23,18 @@ pub fn sizes_fit()
 {}
 
 /// Each text that a host row reads stands, before what follows it and given the texts of the earlier fields; so it is
-/// what its field's form says.
+/// what its field's form says. So is each text that a console row reads, but one that is left out.
 pub fn texts_stand()
     ensures stand { (row : RowShape) (text : List ℕ) (r : ReadText) → is_console row ≡ false → reading row text ≡ Ok r → TextsStand row.fields r.texts }
     ensures are { (row : RowShape) (text : List ℕ) (r : ReadText) → is_console row ≡ false → reading row text ≡ Ok r → AreTexts row.fields r.texts }
+    ensures console { (row : RowShape) (text : List ℕ) (r : ReadText) → is_console row ≡ true → reading row text ≡ Ok r → AreTextsOrAbsent row.fields r.texts }
+{}
+
+/// A text of a form stands just where it is what the form says, before what may follow it; so no other text of the form
+/// stands there.
+pub fn forms_are()
+    ensures stand { (f : Form) (e : List (List ℕ)) (t rest : List ℕ) → Stands f e (t ++ rest) (length t) ↔ (IsText f e t × MayFollow f e t rest) }
+    ensures one { (f : Form) (e : List (List ℕ)) (t u rest more : List ℕ) → t ++ rest ≡ u ++ more → IsText f e t → MayFollow f e t rest → IsText f e u → MayFollow f e u more → t ≡ u }
 {}
 
 /// What the texts of an authorisation and of a key's components are, where the row read them.

@@ -11,7 +11,8 @@ mod table;
 mod texts;
 
 pub use laws::{
-    clear_marks, console_texts_stand, few_fields_and_needs, one_reading, sizes_fit, texts_stand,
+    clear_marks, console_texts_stand, few_fields_and_needs, forms_are, one_reading, sizes_fit,
+    texts_stand,
 };
 pub use listing::explain;
 pub use read::{Fields, read_fields};

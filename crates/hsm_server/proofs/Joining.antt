@@ -4,10 +4,10 @@ use Rattle.std.proofs.lemmas.Bool.{cases_lt}
 use Rattle.circular_buffer.proofs.Places.{slice_get-append_left}
 use Rattle.hsm_auth.specs.declared.entry.Entry.{Entry}
 use Rattle.hsm_auth.specs.Own.{own}
-use Rattle.hsm_desk.specs.Kin.{Covers, first_pair}
+use Rattle.hsm_desk.specs.Kin.{Spans, first_pair}
 use Rattle.hsm_desk.specs.Passes.{PassView, Makes, Sound, number}
 use Rattle.hsm_io.specs.Moments.{tick, after_now, after_calls}
-use Rattle.hsm_session.specs.Connections.{AskClock, AuthoriseNothing, HaveMoments, last_moment, is_authorise}
+use Rattle.hsm_session.specs.Connections.{AskClock, AuthoriseNothing, HaveMoments, last_moment, asks_authorisation}
 
 -- no entry was made yet
 pub makes_none : (p : PassView) → Sound p → Makes p p []
@@ -46,7 +46,7 @@ makes_both p q r xs ys m n =
       sound = n.sound;
     }
   where
-    by_place : (k : ℕ) (e : Entry) → length p.seen ≤ k → slice_get r.seen k ≡ Some e → (j : ℕ) (pair : ℕ × ℕ) → slice_get p.kin j ≡ Some pair → Covers pair e.pass
+    by_place : (k : ℕ) (e : Entry) → length p.seen ≤ k → slice_get r.seen k ≡ Some e → (j : ℕ) (pair : ℕ × ℕ) → slice_get p.kin j ≡ Some pair → Spans pair e.pass
         → (k < length q.seen) ⊎ (length q.seen ≤ k) → e.pass ≡ number p
     by_place k e past at j pair there covers (inl less) =
         m.apart k e past (sym (slice_get-append_left q.seen n.begins.0 k less) ∙ ap (λ (h : List Entry). slice_get h k) n.begins.1 ∙ at) j pair there covers
@@ -88,7 +88,7 @@ clock_both start last now before between after xs ys a b = record {
 }
 
 pub nothing_both : (xs ys : List (ℕ × Entry)) → AuthoriseNothing xs → AuthoriseNothing ys
-    → (i : ℕ) (placed : ℕ × Entry) → slice_get (xs ++ ys) i ≡ Some placed → is_authorise placed.1.ask ≡ false
+    → (i : ℕ) (placed : ℕ × Entry) → slice_get (xs ++ ys) i ≡ Some placed → asks_authorisation placed.1.ask ≡ false
 nothing_both [] ys a b i placed at = b i placed at
 nothing_both (x ∷ xs) ys a b zero placed at = a zero placed at
 nothing_both (x ∷ xs) ys a b (suc i) placed at = nothing_both xs ys (λ j p there. a (suc j) p there) b i placed at

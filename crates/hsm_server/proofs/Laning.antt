@@ -10,12 +10,12 @@ use Rattle.hsm_desk.specs.Passes.{Sound}
 use Rattle.hsm_io.specs.Connections.{Breaks, Doorway, Taken, TakesBack, Traffic, silent}
 use Rattle.hsm_io.specs.Gates.{GateCall, gate_calls}
 use Rattle.hsm_rows.specs.declared.settings.Module.{Module}
-use Rattle.hsm_session.specs.declared.plans.Kind.{Kind}
+use Rattle.hsm_auth.specs.declared.activity.Place.{Place}
 use Rattle.hsm_session.specs.declared.serving.ConnEnd.{ConnEnd}
 use Rattle.hsm_session.specs.declared.serving.ConnEnd.TheVariants.{Clean, Cut, Short, ReadFault, WriteFault}
 use Rattle.hsm_session.specs.declared.serving.Report.{Report}
 use Rattle.hsm_session.specs.Connections.{EndCause, Scene, Serves, Talks, scene}
-use Rattle.hsm_server.specs.Lanes.{LaneState, Served, ServesAll, IsServed, IsToldBy, Tells, all_calls, all_entries, all_reports, bytes_of, fault_count, is_fault, kind_of, message_count, risen}
+use Rattle.hsm_server.specs.Lanes.{LaneState, Served, ServesAll, IsServed, IsToldBy, TakesConnections, all_calls, all_entries, all_reports, bytes_of, fault_count, is_fault, place_of, message_count, risen}
 use Rattle.hsm_server.proofs.Joining.{makes_none, makes_both, clock_none, clock_both, nothing_both}
 
 -- one more item in each of two lists
@@ -78,10 +78,10 @@ messages_more connections served before now =
     ∙ ap (λ (entries : List (ℕ × Entry)). length entries) (entries_more connections served)
 
 -- one more connection at a door that tells
-tells_more : (m : Module) (kind : Kind) (d e : Doorway) (connections : List Served) (served : Served) (bytes : List ℕ) (rest : List (List ℕ)) (taken : Taken)
-    → Tells m kind d e connections → e.to_come ≡ bytes ∷ rest
+tells_more : (m : Module) (kind : Place) (d e : Doorway) (connections : List Served) (served : Served) (bytes : List ℕ) (rest : List (List ℕ)) (taken : Taken)
+    → TakesConnections m kind d e connections → e.to_come ≡ bytes ∷ rest
     → Talks m kind (silent bytes) taken.traffic served.messages served.entries served.report.ended → is_fault served.report.ended ≡ not (taken.faults == 0)
-    → Tells m kind d (record { to_come = rest; taken = e.taken ++ taken ∷ [] }) (connections ++ served ∷ [])
+    → TakesConnections m kind d (record { to_come = rest; taken = e.taken ++ taken ∷ [] }) (connections ++ served ∷ [])
 tells_more m kind d e connections served bytes rest taken t first talks failed =
     let TalksOf : List ℕ → Type 0 = λ b. Talks m kind (silent b) taken.traffic served.messages served.entries served.report.ended in
     record {
@@ -120,7 +120,7 @@ scene_at s traffic = scene s.pass s.last s.moments s.calls traffic
 pub serves_more : (m : Module) (start s t : LaneState) (connections : List Served) (between : Option Doorway) (broken_between : ℕ) (traffic_before traffic_after : Option Traffic)
     (faults_before faults_after : ℕ) (last_was_read : Bool) (report : Report)
     → ServesAll m start s connections
-    → (serves : Serves m (kind_of start.number) start.number (scene_at s traffic_before) (scene_at t traffic_after) report)
+    → (serves : Serves m (place_of start.number) start.number (scene_at s traffic_before) (scene_at t traffic_after) report)
     → EndCause faults_before faults_after last_was_read report.ended → faults_before ≡ 0
     → ((d : Doorway) → s.doorway ≡ Some d → (bytes : List ℕ) × (rest : List (List ℕ)) × (d.to_come ≡ bytes ∷ rest) × (traffic_before ≡ Some (silent bytes)) × (between ≡ Some (record { to_come = rest; taken = d.taken })))
     → TakesBack between t.doorway traffic_after faults_after
@@ -129,7 +129,7 @@ pub serves_more : (m : Module) (start s t : LaneState) (connections : List Serve
     → ServesAll m start t (connections ++ (record { messages = serves.messages; entries = serves.entries; report = report }) ∷ [])
 serves_more m start s t connections between broken_between traffic_before traffic_after faults_before faults_after last_was_read report a serves cause new comes takes same breaks number accept least reports =
     let served : Served = record { messages = serves.messages; entries = serves.entries; report = report } in
-    let kind = kind_of start.number in
+    let kind = place_of start.number in
     let shown = fault_shown faults_before faults_after last_was_read report.ended new cause in
     let entries = entries_more connections served in
     record {
@@ -177,9 +177,9 @@ pub far_none : (m : Module) (s : LaneState) → Sound s.pass → s.is_out ≡ fa
 far_none m s sound out fault = record { connections = []; counted = refl; served = serves_none m s sound; none_out = out; no_fault = fault; kept = refl }
 
 -- one more was served
-pub far_more : (m : Module) (start s t : LaneState) (count : ℕ) (kind : Kind) (between : Option Doorway) (broken_between : ℕ) (traffic_before traffic_after : Option Traffic)
+pub far_more : (m : Module) (start s t : LaneState) (count : ℕ) (kind : Place) (between : Option Doorway) (broken_between : ℕ) (traffic_before traffic_after : Option Traffic)
     (faults_before faults_after : ℕ) (last_was_read : Bool) (report : Report)
-    → SoFar m start s count → kind ≡ kind_of start.number
+    → SoFar m start s count → kind ≡ place_of start.number
     → Serves m kind s.number (scene_at s traffic_before) (scene_at t traffic_after) report
     → EndCause faults_before faults_after last_was_read report.ended → faults_before ≡ 0
     → ((d : Doorway) → s.doorway ≡ Some d → (bytes : List ℕ) × (rest : List (List ℕ)) × (d.to_come ≡ bytes ∷ rest) × (traffic_before ≡ Some (silent bytes)) × (between ≡ Some (record { to_come = rest; taken = d.taken })))
@@ -191,9 +191,9 @@ pub far_more : (m : Module) (start s t : LaneState) (count : ℕ) (kind : Kind) 
 far_more m start s t count kind between broken_between traffic_before traffic_after faults_before faults_after last_was_read report f is serves cause new comes takes same breaks number accept least reports out fault faults =
     let at_first = scene_at s traffic_before in
     let at_last = scene_at t traffic_after in
-    let of_lane : Serves m (kind_of start.number) start.number at_first at_last report =
-    subst (λ (n : ℕ). Serves m (kind_of start.number) n at_first at_last report) f.served.number
-    (subst (λ (k : Kind). Serves m k s.number at_first at_last report) is serves) in
+    let of_lane : Serves m (place_of start.number) start.number at_first at_last report =
+    subst (λ (n : ℕ). Serves m (place_of start.number) n at_first at_last report) f.served.number
+    (subst (λ (k : Place). Serves m k s.number at_first at_last report) is serves) in
     let served : Served = record { messages = of_lane.messages; entries = of_lane.entries; report = report } in
     record {
       connections = f.connections ++ served ∷ [];

@@ -8,8 +8,8 @@ use Rattle.hsm_io.specs.Connections.{Doorway, Taken, silent}
 use Rattle.hsm_io.specs.Gates.{GateCall, gate_calls}
 use Rattle.hsm_io.specs.Outside.{HasCause}
 use Rattle.hsm_rows.specs.declared.settings.Module.{Module}
-use Rattle.hsm_session.specs.declared.plans.Kind.{Kind}
-use Rattle.hsm_session.specs.declared.plans.Kind.TheVariants.{Host, Console}
+use Rattle.hsm_auth.specs.declared.activity.Place.{Place}
+use Rattle.hsm_auth.specs.declared.activity.Place.TheVariants.{Host, Console}
 use Rattle.hsm_session.specs.declared.serving.ConnEnd.{ConnEnd}
 use Rattle.hsm_session.specs.declared.serving.ConnEnd.TheVariants.{Clean, Cut, Short, ReadFault, WriteFault}
 use Rattle.hsm_session.specs.declared.serving.Report.{Report}
@@ -56,13 +56,13 @@ lane_state doorway faults broken is_out last to_come calls lane = record {
 }
 
 -- the lane of number 0 is the console's, every other is a host's
-abbrev pub kind_of : ℕ → Kind
-kind_of number = if number == 0 then Console else Host
+abbrev pub place_of : ℕ → Place
+place_of number = if number == 0 then Console else Host
 
 -- The least length is that of the lane's side, its pass is of the desk, no connection is out, and the lane was not served
 -- before.
 pub record IsReady (m : Module) (desk : TableId) (lane : LaneState) : Type 0 where
-  pub least : lane.least ≡ least_for m (kind_of lane.number)
+  pub least : lane.least ≡ least_for m (place_of lane.number)
   pub of_desk : lane.pass.desk ≡ desk
   pub none_out : lane.is_out ≡ false
   pub no_report : lane.reports ≡ []
@@ -87,7 +87,7 @@ abbrev pub all_calls : ℕ → List Served → List GateCall
 all_calls number connections = flat_map (λ served. gate_calls number 0 (length served.entries)) connections
 
 -- Each message has its entry, and the report counts the entries.
-pub record IsServed (m : Module) (kind : Kind) (served : Served) : Type 0 where
+pub record IsServed (m : Module) (kind : Place) (served : Served) : Type 0 where
   pub each : AllZip (IsEntryFor m (side_of kind)) served.messages served.entries
   pub reported : Reports served.report served.entries
 
@@ -116,13 +116,13 @@ abbrev pub bytes_of : Taken → List ℕ
 bytes_of taken = taken.traffic.was_read ++ taken.traffic.left
 
 -- The connection that was taken back talked as its report says, and it had failed exactly where the report names a fault.
-pub record IsToldBy (m : Module) (kind : Kind) (served : Served) (taken : Taken) : Type 0 where
+pub record IsToldBy (m : Module) (kind : Place) (served : Served) (taken : Taken) : Type 0 where
   pub talks : Talks m kind (silent (bytes_of taken)) taken.traffic served.messages served.entries served.report.ended
   pub failed : is_fault served.report.ended ≡ not (taken.faults == 0)
 
 -- The connections served are the first of those that were to come, in their order, and they were appended to those taken
 -- back. The rest are still to come.
-pub record Tells (m : Module) (kind : Kind) (before after : Doorway) (connections : List Served) : Type 0 where
+pub record TakesConnections (m : Module) (kind : Place) (before after : Doorway) (connections : List Served) : Type 0 where
   pub ended : List Taken
   pub taken : after.taken ≡ before.taken ++ ended
   pub came : before.to_come ≡ map bytes_of ended ++ after.to_come
@@ -138,12 +138,12 @@ pub record ServesAll (m : Module) (before after : LaneState) (connections : List
   pub reports : after.reports ≡ before.reports ++ all_reports connections
   pub counted : message_count (all_reports connections) ≡ length (all_entries connections)
   pub made : Makes before.pass after.pass (all_entries connections)
-  pub each : All (IsServed m (kind_of before.number)) connections
+  pub each : All (IsServed m (place_of before.number)) connections
   pub clock : AskClock before.last after.last before.moments after.moments (all_entries connections)
   pub gate : (calls : List GateCall) → before.calls ≡ Some calls → after.calls ≡ Some (calls ++ all_calls before.number connections)
-  pub hosts : kind_of before.number ≡ Host → AuthoriseNothing (all_entries connections)
+  pub hosts : place_of before.number ≡ Host → AuthoriseNothing (all_entries connections)
   pub broken : after.broken ≡ risen before.broken (fault_count (all_reports connections))
-  pub told : (d : Doorway) → before.doorway ≡ Some d → (e : Doorway) × (after.doorway ≡ Some e) × Tells m (kind_of before.number) d e connections
+  pub told : (d : Doorway) → before.doorway ≡ Some d → (e : Doorway) × (after.doorway ≡ Some e) × TakesConnections m (place_of before.number) d e connections
 
 -- What a run leaves of a lane: it served connections until as many as it accepts were served, or the door ended or failed.
 -- The door fails only before the last of them. Without a failure, where the door tells, all that were to come were served,

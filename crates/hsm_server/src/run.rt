@@ -3,13 +3,14 @@ ghost use Rattle.std.specs.Prelude.{◌≡◌, All};
 ghost use Rattle.std.specs.Thread.{IsSend, IsSync};
 ghost use Rattle.atomic_table.specs.Seated.{TableId};
 ghost use Rattle.hsm_rows.specs.declared.settings.Module.{Module};
-ghost use Rattle.hsm_server.specs.Lanes.{IsReady, Ran, EachLane, kind_of, lane_state};
+ghost use Rattle.hsm_server.specs.Lanes.{IsReady, Ran, EachLane, place_of, lane_state};
 
 use crate::lane::Lane;
+use hsm_auth::Place;
 use hsm_desk::Desk;
 use hsm_io::{Came, Clock, Door, Gate};
 use hsm_rows::Module;
-use hsm_session::{Kind, serve_link};
+use hsm_session::serve_link;
 use std::sync::Wait;
 use std::thread::{Threads, join_mut};
 
@@ -25,13 +26,13 @@ trait Work {
 }
 
 /// The side of the lane of this number: 0 is the console's, every other a host's.
-pub fn kind_for(number: u32) -> Kind
-    ensures { result ≡ kind_of number }
+pub fn kind_for(number: u32) -> Place
+    ensures { result ≡ place_of number }
 {
     if number == 0 {
-        Kind::Console
+        Place::Console
     } else {
-        Kind::Host
+        Place::Host
     }
 }
 

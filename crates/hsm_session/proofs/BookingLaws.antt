@@ -10,7 +10,7 @@ use Rattle.hsm_rows.specs.declared.settings.Module.{Module}
 use Rattle.hsm_answers.specs.Messages.{Side, host, message_ask, message_answer}
 use Rattle.hsm_io.specs.Texts.{Appends, AppendsFront}
 use Rattle.hsm_io.proofs.TextLemmas.{appends_then_front, appends_twice, front_of_more}
-use Rattle.hsm_session.specs.Booking.{entry_of, entries_of, answer_lines, reply_line, reply_of, IsAnswered, Books, BooksAll, BooksFront, BooksSome}
+use Rattle.hsm_session.specs.Booking.{entry_of, entries_of, answer_lines, reply_line, reply_of, IsAnswered, IsBooked, BooksAll, BooksFront, BooksSome}
 
 -- one more entry and those after it
 after_one : (h : List Entry) (e : Entry) (more : List Entry) → (h ++ e ∷ []) ++ more ≡ h ++ e ∷ more
@@ -44,7 +44,7 @@ lines_twice m lane moment h (message ∷ first) second =
     ∙ sym (append_assoc line (answer_lines m lane moment next first) (answer_lines m lane moment (h ++ e ∷ entries_of m moment next first) second))
 
 -- nothing was booked and written
-pub books_nothing : (h : List Entry) (ledger : Ledger) (before : List ℕ → Type 0) → StandsFor ledger h → Books h [] [] ledger before before
+pub books_nothing : (h : List Entry) (ledger : Ledger) (before : List ℕ → Type 0) → StandsFor ledger h → IsBooked h [] [] ledger before before
 books_nothing h ledger before stands = record {
   stands = subst (StandsFor ledger) (sym (append-nil h)) stands;
   legal = λ legal. subst IsLegal (sym (append-nil h)) legal;
@@ -53,7 +53,7 @@ books_nothing h ledger before stands = record {
 
 -- some entries and others after them
 pub books_both : (h first second : List Entry) (a b : List ℕ) (mid new : Ledger) (before between after : List ℕ → Type 0)
-    → Books h first a mid before between → Books (h ++ first) second b new between after → Books h (first ++ second) (a ++ b) new before after
+    → IsBooked h first a mid before between → IsBooked (h ++ first) second b new between after → IsBooked h (first ++ second) (a ++ b) new before after
 books_both h first second a b mid new before between after one two =
     let whole : (h ++ first) ++ second ≡ h ++ (first ++ second) = append_assoc h first second in
     record {
@@ -64,10 +64,10 @@ books_both h first second a b mid new before between after one two =
 
 -- the same entries and the same text by other names
 pub books_same : (h more others : List Entry) (text other : List ℕ) (ledger : Ledger) (before after : List ℕ → Type 0)
-    → more ≡ others → text ≡ other → Books h more text ledger before after → Books h others other ledger before after
+    → more ≡ others → text ≡ other → IsBooked h more text ledger before after → IsBooked h others other ledger before after
 books_same h more others text other ledger before after entries texts books =
-    subst (λ (es : List Entry). Books h es other ledger before after) entries
-    (subst (λ (t : List ℕ). Books h more t ledger before after) texts books)
+    subst (λ (es : List Entry). IsBooked h es other ledger before after) entries
+    (subst (λ (t : List ℕ). IsBooked h more t ledger before after) texts books)
 
 -- no message
 pub books_none : (m : Module) (lane moment : ℕ) (ledger : Ledger) (before : List ℕ → Type 0) → BooksAll m lane moment [] ledger ledger before before
@@ -109,7 +109,7 @@ answered m side moment message reply ask granted old new asks answers stands leg
 -- a message that was booked, and a text that was written
 pub books_message : (m : Module) (side : Side) (moment : ℕ) (message reply text : List ℕ) (line : List ℕ → List ℕ) (old new : Ledger) (before after : List ℕ → Type 0) (h : List Entry)
     → IsAnswered m side moment message old new reply h → text ≡ line reply → Appends before after text
-    → Books h (entry_of m side moment h message ∷ []) (line (reply_of m side moment h message)) new before after
+    → IsBooked h (entry_of m side moment h message ∷ []) (line (reply_of m side moment h message)) new before after
 books_message m side moment message reply text line old new before after h a is printed = record {
   stands = a.stands;
   legal = a.legal;
@@ -152,7 +152,7 @@ front_same h more others text other ledger before after entries texts books =
 
 -- some entries, and then others from the front
 pub front_both : (h first second : List Entry) (a b : List ℕ) (mid new : Ledger) (before between after : List ℕ → Type 0)
-    → Books h first a mid before between → BooksFront (h ++ first) second b new between after → BooksFront h (first ++ second) (a ++ b) new before after
+    → IsBooked h first a mid before between → BooksFront (h ++ first) second b new between after → BooksFront h (first ++ second) (a ++ b) new before after
 front_both h first second a b mid new before between after one two =
     let whole : (h ++ first) ++ two.booked ≡ h ++ (first ++ two.booked) = append_assoc h first two.booked in
     record {
@@ -190,7 +190,7 @@ front_text h more text rest ledger before after b = record {
 
 -- all entries, and of the text that follows theirs a part from the front
 pub front_after : (h more : List Entry) (text next : List ℕ) (ledger : Ledger) (before between after : List ℕ → Type 0)
-    → Books h more text ledger before between → AppendsFront between after next → BooksFront h more (text ++ next) ledger before after
+    → IsBooked h more text ledger before between → AppendsFront between after next → BooksFront h more (text ++ next) ledger before after
 front_after h more text next ledger before between after b printed = record {
   booked = more;
   missing = [];

@@ -15,7 +15,7 @@ use Rattle.hsm_answers.specs.Clear.{Authorises, IsGrantedAt, ShowsClear}
 use Rattle.hsm_answers.specs.Messages.{Side, host, console, message_ask}
 use Rattle.hsm_session.specs.Booking.{entry_of, entries_of}
 use Rattle.hsm_session.specs.Clear.{Brings, HasMessage, IsByOfficers, IsEntryOf, IsGranted}
-use Rattle.hsm_session.specs.Runs.{Tells, Prints, moment_at}
+use Rattle.hsm_session.specs.Runs.{IsRunOfLine, IsRunOfLines, moment_at}
 use Rattle.hsm_session.specs.Scripts.{Said, Nothing, Moment, Piece, Console}
 
 -- the entry at place k of those that follow the history h is that of a message of which this holds
@@ -70,7 +70,7 @@ abbrev IsBroughtAt : Module → List Said → Said → Side → ℕ → List ℕ
 IsBroughtAt m earlier line side moment message = (moment ≡ moment_at earlier) × Brings m earlier line side message
 
 -- the entries of a line
-tells : (m : Module) (h : List Entry) (earlier : List Said) (line : Said) (more : List Entry) (text : List ℕ) → Tells m h earlier line more text
+tells : (m : Module) (h : List Entry) (earlier : List Said) (line : Said) (more : List Entry) (text : List ℕ) → IsRunOfLine m h earlier line more text
     → (k : ℕ) → k < length more → Follows m (IsBroughtAt m earlier line) h more k
 tells m h earlier Nothing more text t k low = absurd (omega (arith, low, ap length t.0))
 tells m h earlier (Moment moment) more text t k low = absurd (omega (arith, low, ap length t.0))
@@ -84,7 +84,7 @@ tells m h earlier (Console message) more text t k low =
     (follow_one m Is (moment_at earlier) h message (refl, (refl, refl)) k (subst (λ (es : List Entry). k < length es) t.0 low))
 
 -- a run's history begins with the history before it
-starts : (m : Module) (h : List Entry) (earlier later : List Said) (last : List Entry) (text : List ℕ) → Prints m h earlier later last text
+starts : (m : Module) (h : List Entry) (earlier later : List Said) (last : List Entry) (text : List ℕ) → IsRunOfLines m h earlier later last text
     → (tail : List Entry) × (last ≡ h ++ tail)
 starts m h earlier [] last text (same, none) = ([], same ∙ sym (append-nil h))
 starts m h earlier (line ∷ later) last text (more, first, rest, t, split, p) =
@@ -121,7 +121,7 @@ pub by_place : {P : Type 0} (i n : ℕ) → (i < n → P) → (n ≤ i → P) �
 by_place i n p q (inl less) = p less
 by_place i n p q (inr more) = q more
 
-pub each_message : (m : Module) (h : List Entry) (earlier later : List Said) (last : List Entry) (text : List ℕ) → Prints m h earlier later last text
+pub each_message : (m : Module) (h : List Entry) (earlier later : List Said) (last : List Entry) (text : List ℕ) → IsRunOfLines m h earlier later last text
     → (i : ℕ) → length h ≤ i → i < length last → HasMessage m (earlier ++ later) last i
 each_message m h earlier [] last text (same, none) i least low = absurd (omega (arith, least, low, ap length same))
 each_message m h earlier (line ∷ later) last text (more, first, rest, t, split, p) i least low =
@@ -149,7 +149,7 @@ ClearGranted = (m : Module) (side : Side) (message : List ℕ) (h : List Entry) 
 pub same_entry : (e d : Entry) (o : Option Entry) → o ≡ Some e → o ≡ Some d → e ≡ d
 same_entry e d o x y = cc
 
-pub by_officers : WordsAuthorise → (m : Module) (h : List Entry) (lines : List Said) (last : List Entry) (text : List ℕ) → Prints m h [] lines last text
+pub by_officers : WordsAuthorise → (m : Module) (h : List Entry) (lines : List Said) (last : List Entry) (text : List ℕ) → IsRunOfLines m h [] lines last text
     → (i : ℕ) (e : Entry) (activity : Activity) (minutes : ℕ) → length h ≤ i → slice_get last i ≡ Some e → e.ask ≡ Authorise activity minutes
     → IsByOfficers m lines last i activity minutes
 by_officers words m h lines last text p i e activity minutes least there asks =
@@ -157,7 +157,7 @@ by_officers words m h lines last text p i e activity minutes least there asks =
     let same = same_entry e (entry_of m b.side b.moment (take i last) b.message) (slice_get last i) there b.entered in
     record { of_message = b; words = words m b.side b.message activity minutes (sym (ap (λ (x : Entry). x.ask) same) ∙ asks) }
 
-pub granted_before : WordsAuthorise → ClearGranted → (m : Module) (h : List Entry) (lines : List Said) (last : List Entry) (text : List ℕ) → Prints m h [] lines last text
+pub granted_before : WordsAuthorise → ClearGranted → (m : Module) (h : List Entry) (lines : List Said) (last : List Entry) (text : List ℕ) → IsRunOfLines m h [] lines last text
     → (i : ℕ) (e : Entry) (side : Side) (moment : ℕ) (message : List ℕ) → slice_get last i ≡ Some e → IsEntryOf m last i side moment message
     → (s : ShowsClear m side message e.granted) → IsGranted m lines (length h) last i e s.row s.read
 granted_before words granted m h lines last text p i e side moment message there entered s =

@@ -10,7 +10,7 @@ use Rattle.hsm_session.specs.Plans.{least_length}
 use Rattle.hsm_session.specs.Booking.{answer_lines, entries_of}
 use Rattle.hsm_session.specs.Cuts.{IsOpen}
 use Rattle.hsm_session.specs.Scripts.{Said, Piece}
-use Rattle.hsm_session.specs.Runs.{Prints, Tells, Told, after_answers, brought, end_lines, got, is_short, last_line, moment_at, piece_text}
+use Rattle.hsm_session.specs.Runs.{IsRunOfLines, IsRunOfLine, IsRunOf, after_answers, brought, end_lines, got, is_short, last_line, moment_at, piece_text}
 use Rattle.hsm_session.proofs.BookingLaws.{entries_twice, lines_twice}
 use Rattle.hsm_session.proofs.Feeding.{short_more}
 use Rattle.hsm_session.proofs.OneRun.{AreAlike, alike, alike_more, same_line, same_lines, told_counts}
@@ -126,8 +126,8 @@ texts_join m lane moment h start middle end newer newest is_open none =
 
 -- what a piece books and prints is what its parts book and print
 cut_piece : HasOneReading → (m : Module) (h : List Entry) (before : List Said) (lane : ℕ) (first second : List ℕ) (more one two : List Entry) (text a b : List ℕ)
-    → Tells m h before (Piece lane (first ++ second)) more text → Tells m h before (Piece lane first) one a
-    → Tells m (h ++ one) (before ++ Piece lane first ∷ []) (Piece lane second) two b
+    → IsRunOfLine m h before (Piece lane (first ++ second)) more text → IsRunOfLine m h before (Piece lane first) one a
+    → IsRunOfLine m (h ++ one) (before ++ Piece lane first ∷ []) (Piece lane second) two b
     → (more ≡ one ++ two) × (IsOpen m (before ++ Piece lane first ∷ []) lane → text ≡ a ++ b)
 cut_piece only m h before lane first second more one two text a b (messages, start, new, end, f, g, booked, printed) (some, middle, newer, last, p, q, entered, said) (others, mid, newest, final, r, s, added, told) =
     let now = moment_at before in
@@ -162,14 +162,14 @@ cut_piece only m h before lane first second more one two text a b (messages, sta
 
 -- lines with a piece and with its parts come to one history and one text
 cut_lines : HasOneReading → (m : Module) (h : List Entry) (before earlier later : List Said) (lane : ℕ) (first second : List ℕ) (last other : List Entry) (text output : List ℕ)
-    → Prints m h before (earlier ++ Piece lane (first ++ second) ∷ later) last text → Prints m h before (earlier ++ Piece lane first ∷ Piece lane second ∷ later) other output
+    → IsRunOfLines m h before (earlier ++ Piece lane (first ++ second) ∷ later) last text → IsRunOfLines m h before (earlier ++ Piece lane first ∷ Piece lane second ∷ later) other output
     → (last ≡ other) × (IsOpen m ((before ++ earlier) ++ Piece lane first ∷ []) lane → text ≡ output)
 cut_lines only m h before [] later lane first second last other text output (more, a, rest, t, split, p) (one, b, remains, s, parted, (two, c, after, r, cut, q)) =
     let whole = cut_piece only m h before lane first second more one two a b c t s r in
     let same : (h ++ one) ++ two ≡ h ++ more = append_assoc h one two ∙ ap (λ (es : List Entry). h ++ es) (sym whole.0) in
     let end = (before ++ Piece lane first ∷ []) ++ Piece lane second ∷ [] in
     let there = same_lines only m (h ++ more) (before ++ Piece lane (first ++ second) ∷ []) end later last other rest after (alike_cut before lane first second) p
-    (subst (λ (g : List Entry). Prints m g end later other after) same q) in (
+    (subst (λ (g : List Entry). IsRunOfLines m g end later other after) same q) in (
       there.0,
       λ opened.
           split
@@ -183,7 +183,7 @@ cut_lines only m h before (line ∷ earlier) later lane first second last other 
     let here = same_line only m h before before line more others a b (alike before) t s in
     let joined = earlier ++ Piece lane first ∷ Piece lane second ∷ later in
     let there = cut_lines only m (h ++ more) (before ++ line ∷ []) earlier later lane first second last other rest remains p
-    (subst (λ (es : List Entry). Prints m (h ++ es) (before ++ line ∷ []) joined other remains) (sym here.0) q) in (
+    (subst (λ (es : List Entry). IsRunOfLines m (h ++ es) (before ++ line ∷ []) joined other remains) (sym here.0) q) in (
       there.0,
       λ opened.
           let same = there.1 (subst (λ (lines : List Said). IsOpen m (lines ++ Piece lane first ∷ []) lane) (sym (append_assoc before (line ∷ []) earlier)) opened) in
@@ -192,7 +192,7 @@ cut_lines only m h before (line ∷ earlier) later lane first second last other 
 
 pub cut_joins : HasOneReading → (m : Module) (h : List Entry) (earlier later : List Said) (lane : ℕ) (first second : List ℕ)
     (last other : List Entry) (text output : List ℕ) (over end : ScriptEnd)
-    → Told m h (earlier ++ Piece lane (first ++ second) ∷ later) last text over → Told m h (earlier ++ Piece lane first ∷ Piece lane second ∷ later) other output end
+    → IsRunOf m h (earlier ++ Piece lane (first ++ second) ∷ later) last text over → IsRunOf m h (earlier ++ Piece lane first ∷ Piece lane second ∷ later) other output end
     → (last ≡ other) × (over ≡ end) × (IsOpen m (earlier ++ Piece lane first ∷ []) lane → text ≡ output)
 cut_joins only m h earlier later lane first second last other text output over end t s =
     let same = cut_lines only m h [] earlier later lane first second last other t.answers s.answers t.printed s.printed in

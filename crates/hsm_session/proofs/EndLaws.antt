@@ -6,7 +6,7 @@ use Rattle.hsm_io.specs.Texts.{Appends, AppendsFront}
 use Rattle.hsm_io.proofs.TextLemmas.{appends_then_front, front_of_more}
 use Rattle.hsm_frame.specs.Frames.{StreamEnd}
 use Rattle.hsm_rows.specs.declared.settings.Module.{Module}
-use Rattle.hsm_session.specs.declared.lane.Lane.{Lane}
+use Rattle.hsm_session.specs.declared.lane.ScriptLane.{ScriptLane}
 use Rattle.hsm_session.specs.Plans.{least_length}
 use Rattle.hsm_session.specs.Runs.{end_line, end_lines}
 use Rattle.hsm_session.specs.Lanes.{IsLaneAt, all_held, lane_end}
@@ -24,15 +24,15 @@ count_more test ends end =
     omega (arith, sum)
 
 -- how the streams end of one more lane
-ends_more : (lanes : List Lane) (place : ℕ) (lane : Lane) → place < length lanes → lane ≡ get_or lanes place lane
+ends_more : (lanes : List ScriptLane) (place : ℕ) (lane : ScriptLane) → place < length lanes → lane ≡ get_or lanes place lane
     → map lane_end (take (place + 1) lanes) ≡ map lane_end (take place lanes) ++ lane_end lane ∷ []
 ends_more lanes place lane within here =
     ap (map lane_end) (take_more lanes place lane within)
     ∙ map-append lane_end (take place lanes) (get_or lanes place lane ∷ [])
-    ∙ ap (λ (l : Lane). map lane_end (take place lanes) ++ lane_end l ∷ []) (sym here)
+    ∙ ap (λ (l : ScriptLane). map lane_end (take place lanes) ++ lane_end l ∷ []) (sym here)
 
 -- the line of one more lane
-pub lines_more : (lanes : List Lane) (place : ℕ) (lane : Lane) → place < length lanes → lane ≡ get_or lanes place lane → lane.number ≡ place + 1
+pub lines_more : (lanes : List ScriptLane) (place : ℕ) (lane : ScriptLane) → place < length lanes → lane ≡ get_or lanes place lane → lane.number ≡ place + 1
     → end_lines 1 (map lane_end (take (place + 1) lanes)) ≡ end_lines 1 (map lane_end (take place lanes)) ++ end_line lane.number (lane_end lane)
 lines_more lanes place lane within here number =
     let ends = map lane_end (take place lanes) in
@@ -42,7 +42,7 @@ lines_more lanes place lane within here number =
     ∙ ap (λ (n : ℕ). end_lines 1 ends ++ end_line n (lane_end lane)) count
 
 -- the count of one more lane
-pub counts_more : (test : StreamEnd → Bool) (lanes : List Lane) (place : ℕ) (lane : Lane) (before : ℕ) → place < length lanes → lane ≡ get_or lanes place lane
+pub counts_more : (test : StreamEnd → Bool) (lanes : List ScriptLane) (place : ℕ) (lane : ScriptLane) (before : ℕ) → place < length lanes → lane ≡ get_or lanes place lane
     → before ≡ count_by test (map lane_end (take place lanes))
     → before + cond (test (lane_end lane)) 1 0 ≡ count_by test (map lane_end (take (place + 1) lanes))
 counts_more test lanes place lane before within here was =
@@ -50,7 +50,7 @@ counts_more test lanes place lane before within here was =
     ∙ sym (ap (count_by test) (ends_more lanes place lane within here) ∙ count_more test (map lane_end (take place lanes)) (lane_end lane))
 
 -- a lane of which nothing came
-pub lane_new : (m : Module) (place : ℕ) (lane : Lane) → lane ≡ record { number = place; frames = record { least = least_length m; bytes = [] }; short = None } → IsLaneAt m place [] lane
+pub lane_new : (m : Module) (place : ℕ) (lane : ScriptLane) → lane ≡ record { number = place; frames = record { least = least_length m; bytes = [] }; short = None } → IsLaneAt m place [] lane
 lane_new m place lane is = subst (IsLaneAt m place []) (sym is) (record {
   number = refl;
   least = refl;
@@ -66,9 +66,9 @@ lane_new m place lane is = subst (IsLaneAt m place []) (sym is) (record {
 })
 
 -- a lane that holds nothing
-pub held_more : (lanes : List Lane) (lane : Lane) → all_held lanes ≡ 0 → lane.frames.bytes ≡ [] → all_held (lanes ++ lane ∷ []) ≡ 0
+pub held_more : (lanes : List ScriptLane) (lane : ScriptLane) → all_held lanes ≡ 0 → lane.frames.bytes ≡ [] → all_held (lanes ++ lane ∷ []) ≡ 0
 held_more lanes lane none empty =
-    let sum = sum_by-append (λ (l : Lane). length l.frames.bytes) lanes (lane ∷ []) in
+    let sum = sum_by-append (λ (l : ScriptLane). length l.frames.bytes) lanes (lane ∷ []) in
     omega (arith, sum, none, ap length empty)
 
 pub bit_most : (test : Bool) → cond test 1 0 ≤ 1
@@ -83,15 +83,15 @@ end_lines-append lane (end ∷ first) second =
     ∙ ap (λ (n : ℕ). end_lines lane (end ∷ first) ++ end_lines n second) (omega arith)
 
 -- the lines of the first lanes come first
-lines_begin : (lanes : List Lane) (place : ℕ)
+lines_begin : (lanes : List ScriptLane) (place : ℕ)
     → end_lines 1 (map lane_end lanes) ≡ end_lines 1 (map lane_end (take place lanes)) ++ end_lines (1 + length (map lane_end (take place lanes))) (map lane_end (drop place lanes))
 lines_begin lanes place =
-    ap (λ (all : List Lane). end_lines 1 (map lane_end all)) (sym (take-append-drop place lanes))
+    ap (λ (all : List ScriptLane). end_lines 1 (map lane_end all)) (sym (take-append-drop place lanes))
     ∙ ap (end_lines 1) (map-append lane_end (take place lanes) (drop place lanes))
     ∙ end_lines-append 1 (map lane_end (take place lanes)) (map lane_end (drop place lanes))
 
 -- a lane's line was not wholly written
-pub line_stopped : (lanes : List Lane) (place : ℕ) (lane : Lane) (rest : List ℕ) (before mid after : List ℕ → Type 0)
+pub line_stopped : (lanes : List ScriptLane) (place : ℕ) (lane : ScriptLane) (rest : List ℕ) (before mid after : List ℕ → Type 0)
     → place < length lanes → lane ≡ get_or lanes place lane → lane.number ≡ place + 1
     → Appends before mid (end_lines 1 (map lane_end (take place lanes))) → AppendsFront mid after (end_line lane.number (lane_end lane))
     → AppendsFront before after (end_lines 1 (map lane_end lanes) ++ rest)

@@ -9,7 +9,7 @@ use Rattle.hsm_rows.specs.declared.settings.Module.{Module}
 use Rattle.hsm_session.specs.Plans.{least_length}
 use Rattle.hsm_session.specs.Scripts.{Said, Nothing, Moment, Piece, Console}
 use Rattle.hsm_session.specs.Booking.{console_line, entries_of, entry_of, reply_of}
-use Rattle.hsm_session.specs.Runs.{AreEnds, Prints, Tells, brought, got, moment_at, piece_text}
+use Rattle.hsm_session.specs.Runs.{AreEnds, IsRunOfLines, IsRunOfLine, brought, got, moment_at, piece_text}
 use Rattle.hsm_session.specs.Lanes.{AreBytes, BringBytes}
 use Rattle.hsm_session.proofs.Running.{brought_here, got_more}
 use Rattle.hsm_session.proofs.Streams.{bytes_left, bytes_right, frames_more}
@@ -20,7 +20,7 @@ first_bring first second bring = λ lane. bytes_left (got lane first) (got lane 
 
 -- what a line books and prints
 tells_exist : HasReading → (m : Module) (h : List Entry) (earlier : List Said) (line : Said) → BringBytes (earlier ++ line ∷ [])
-    → (more : List Entry) × (text : List ℕ) × Tells m h earlier line more text
+    → (more : List Entry) × (text : List ℕ) × IsRunOfLine m h earlier line more text
 tells_exist read m h earlier Nothing bring = ([], [], (refl, refl))
 tells_exist read m h earlier (Moment moment) bring = ([], [], (refl, refl))
 tells_exist read m h earlier (Piece lane bytes) bring =
@@ -43,7 +43,7 @@ tells_exist read m h earlier (Console text) bring =
 pub record Exists (m : Module) (h : List Entry) (earlier later : List Said) : Type 0 where
   pub more : List Entry
   pub text : List ℕ
-  pub prints : Prints m h earlier later (h ++ more) text
+  pub prints : IsRunOfLines m h earlier later (h ++ more) text
 
 -- what the later lines book and print
 pub prints_exist : HasReading → (m : Module) (h : List Entry) (earlier later : List Said) → BringBytes (earlier ++ later) → Exists m h earlier later
@@ -62,7 +62,7 @@ prints_exist read m h earlier (line ∷ later) bring =
         p.text,
         t.2,
         refl,
-        subst (λ (end : List Entry). Prints m (h ++ t.0) (earlier ++ line ∷ []) later end p.text) (append_assoc h t.0 p.more) p.prints,
+        subst (λ (end : List Entry). IsRunOfLines m (h ++ t.0) (earlier ++ line ∷ []) later end p.text) (append_assoc h t.0 p.more) p.prints,
       );
     }
 

@@ -10,16 +10,16 @@ use Rattle.hsm_io.proofs.TextLemmas.{appends_twice}
 use Rattle.hsm_auth.specs.declared.entry.Entry.{Entry}
 use Rattle.hsm_auth.specs.declared.ledger.Ledger.{Ledger}
 use Rattle.hsm_rows.specs.declared.settings.Module.{Module}
-use Rattle.hsm_session.specs.Booking.{answer_lines, Books, BooksAll}
+use Rattle.hsm_session.specs.Booking.{answer_lines, IsBooked, BooksAll}
 use Rattle.hsm_session.specs.Runs.{piece_text, after_answers, short_line, closed_line}
-use Rattle.hsm_session.specs.Lanes.{Drains, IsBehind, FeedsPiece, end_of, lane_end}
-use Rattle.hsm_session.specs.declared.lane.Lane.{Lane}
+use Rattle.hsm_session.specs.Lanes.{Drains, IsBehind, FeedsPiece, stream_end, lane_end}
+use Rattle.hsm_session.specs.declared.lane.ScriptLane.{ScriptLane}
 use Rattle.hsm_session.specs.declared.lane.Drained.{Drained}
 use Rattle.hsm_session.proofs.Answering.{each_append}
 use Rattle.hsm_session.proofs.BookingLaws.{books_none, books_nothing, books_twice}
 
 -- A part of a piece was fed to an open lane and its messages were booked and answered. The lane is open, and waits.
-pub record Feeds (m : Module) (moment : ℕ) (old new : Lane) (part : List ℕ) (answered : ℕ) (was is : Ledger) (before after : List ℕ → Type 0) : Type 0 where
+pub record Feeds (m : Module) (moment : ℕ) (old new : ScriptLane) (part : List ℕ) (answered : ℕ) (was is : Ledger) (before after : List ℕ → Type 0) : Type 0 where
   pub messages : List (List ℕ)
   pub split : old.frames.bytes ++ part ≡ flat_map frame messages ++ new.frames.bytes
   pub each : AllByRecursion (IsMessage old.frames.least) messages
@@ -29,7 +29,7 @@ pub record Feeds (m : Module) (moment : ℕ) (old new : Lane) (part : List ℕ) 
   pub count : answered ≡ length messages
   pub spent : answered + length new.frames.bytes ≤ length old.frames.bytes + length part
 
-pub feeds_none : (m : Module) (moment : ℕ) (old : Lane) (was : Ledger) (before : List ℕ → Type 0) → Feeds m moment old old [] 0 was was before before
+pub feeds_none : (m : Module) (moment : ℕ) (old : ScriptLane) (was : Ledger) (before : List ℕ → Type 0) → Feeds m moment old old [] 0 was was before before
 feeds_none m moment old was before = record {
   messages = [];
   split = append-nil old.frames.bytes;
@@ -42,7 +42,7 @@ feeds_none m moment old was before = record {
 }
 
 -- one more part
-pub feeds_more : (m : Module) (moment : ℕ) (old mid new : Lane) (part next : List ℕ) (answered : ℕ) (fed left : Held) (was between is : Ledger) (before now after : List ℕ → Type 0) (drained : Drained)
+pub feeds_more : (m : Module) (moment : ℕ) (old mid new : ScriptLane) (part next : List ℕ) (answered : ℕ) (fed left : Held) (was between is : Ledger) (before now after : List ℕ → Type 0) (drained : Drained)
     → Feeds m moment old mid part answered was between before now
     → fed ≡ record { least = mid.frames.least; bytes = mid.frames.bytes ++ next }
     → Drains m mid.number moment fed left between is now after drained
@@ -74,11 +74,11 @@ feeds_more m moment old mid new part next answered fed left was between is befor
     }
 
 -- what is held of an open lane's stream, as its tail
-pub waits_at_tail : (least : ℕ) (held : List ℕ) → IsTail least (end_of None held) held → IsNotYet least held
+pub waits_at_tail : (least : ℕ) (held : List ℕ) → IsTail least (stream_end None held) held → IsNotYet least held
 waits_at_tail least [] ends = tt
 waits_at_tail least (byte ∷ held) ends = ends
 
-pub tail_waits : (least : ℕ) (held : List ℕ) → IsNotYet least held → IsTail least (end_of None held) held
+pub tail_waits : (least : ℕ) (held : List ℕ) → IsNotYet least held → IsTail least (stream_end None held) held
 tail_waits least [] waits = refl
 tail_waits least (byte ∷ held) waits = waits
 
@@ -88,13 +88,13 @@ short_more least n (high ∷ []) more short = absurd short
 short_more least n (high ∷ low ∷ rest) more short = short
 
 pub text_open : (m : Module) (lane moment : ℕ) (h : List Entry) (held : List ℕ) (messages : List (List ℕ)) (after : StreamEnd)
-    → piece_text m lane moment h (end_of None held) messages after ≡ answer_lines m lane moment h messages ++ after_answers lane after
+    → piece_text m lane moment h (stream_end None held) messages after ≡ answer_lines m lane moment h messages ++ after_answers lane after
 text_open m lane moment h [] messages after = refl
 text_open m lane moment h (byte ∷ held) messages after = refl
 
 -- booked messages, and what more is printed after them
 books_text : (h more : List Entry) (text next whole : List ℕ) (ledger : Ledger) (before between after : List ℕ → Type 0)
-    → Books h more text ledger before between → Appends between after next → text ++ next ≡ whole → Books h more whole ledger before after
+    → IsBooked h more text ledger before between → Appends between after next → text ++ next ≡ whole → IsBooked h more whole ledger before after
 books_text h more text next whole ledger before between after b printed is = record {
   stands = b.stands;
   legal = b.legal;
@@ -104,29 +104,29 @@ books_text h more text next whole ledger before between after b printed is = rec
 appends_nothing : (at : List ℕ → Type 0) → Appends at at []
 appends_nothing at = λ base b. subst at (sym (append-nil base)) b
 
-pub nothing_after : (lane : ℕ) (held : List ℕ) → after_answers lane (end_of None held) ≡ []
+pub nothing_after : (lane : ℕ) (held : List ℕ) → after_answers lane (stream_end None held) ≡ []
 nothing_after lane [] = refl
 nothing_after lane (byte ∷ held) = refl
 
 -- a lane whose stream these bytes are, by what is held
-pub record IsOpen (lane : Lane) (fed : List ℕ) (messages : List (List ℕ)) : Type 0 where
+pub record IsOpen (lane : ScriptLane) (fed : List ℕ) (messages : List (List ℕ)) : Type 0 where
   pub whole : fed ≡ flat_map frame messages ++ lane.frames.bytes
   pub each : AllByRecursion (IsMessage lane.frames.least) messages
   pub waits : IsNotYet lane.frames.least lane.frames.bytes
 
-pub is_open : (lane : Lane) (fed : List ℕ) (messages : List (List ℕ)) → lane.short ≡ None → IsBehind lane fed messages → IsOpen lane fed messages
+pub is_open : (lane : ScriptLane) (fed : List ℕ) (messages : List (List ℕ)) → lane.short ≡ None → IsBehind lane fed messages → IsOpen lane fed messages
 is_open lane fed messages none b =
     let tail = b.held none in
     record {
       whole = b.whole ∙ ap (λ (rest : List ℕ). flat_map frame messages ++ rest) tail;
       each = b.each;
       waits = waits_at_tail lane.frames.least lane.frames.bytes
-          (subst (λ (s : Option ℕ). IsTail lane.frames.least (end_of s lane.frames.bytes) lane.frames.bytes) none
-          (subst (IsTail lane.frames.least (end_of lane.short lane.frames.bytes)) tail b.ends));
+          (subst (λ (s : Option ℕ). IsTail lane.frames.least (stream_end s lane.frames.bytes) lane.frames.bytes) none
+          (subst (IsTail lane.frames.least (stream_end lane.short lane.frames.bytes)) tail b.ends));
     }
 
 -- the messages of a stream and those of a part that follows it
-joined : (old mid : Lane) (fed part : List ℕ) (messages more : List (List ℕ)) → fed ≡ flat_map frame messages ++ old.frames.bytes
+joined : (old mid : ScriptLane) (fed part : List ℕ) (messages more : List (List ℕ)) → fed ≡ flat_map frame messages ++ old.frames.bytes
     → old.frames.bytes ++ part ≡ flat_map frame more ++ mid.frames.bytes
     → fed ++ part ≡ flat_map frame (messages ++ more) ++ mid.frames.bytes
 joined old mid fed part messages more whole split =
@@ -137,7 +137,7 @@ joined old mid fed part messages more whole split =
     ∙ ap (λ (front : List ℕ). front ++ mid.frames.bytes) (sym (flat_map-append frame messages more))
 
 -- a whole piece was fed, and the lane is open
-pub feeds_piece : (m : Module) (moment : ℕ) (old new : Lane) (piece : List ℕ) (answered : ℕ) (was is : Ledger) (before after : List ℕ → Type 0)
+pub feeds_piece : (m : Module) (moment : ℕ) (old new : ScriptLane) (piece : List ℕ) (answered : ℕ) (was is : Ledger) (before after : List ℕ → Type 0)
     → old.short ≡ None → new.short ≡ None → Feeds m moment old new piece answered was is before after
     → (IsNotYet old.frames.least old.frames.bytes → IsNotYet old.frames.least new.frames.bytes) → length new.frames.bytes < 65537
     → FeedsPiece m moment old new piece answered was is before after
@@ -151,16 +151,16 @@ feeds_piece m moment old new piece answered was is before after opened stays f w
       let n = old.number in
       let text : (h : List Entry) → answer_lines m n moment h f.messages ++ [] ≡ piece_text m n moment h (lane_end old) f.messages (lane_end new) = λ h.
       ap (λ (more : List ℕ). answer_lines m n moment h f.messages ++ more)
-      (sym (nothing_after n new.frames.bytes) ∙ ap (λ (s : Option ℕ). after_answers n (end_of s new.frames.bytes)) (sym stays))
+      (sym (nothing_after n new.frames.bytes) ∙ ap (λ (s : Option ℕ). after_answers n (stream_end s new.frames.bytes)) (sym stays))
       ∙ sym (text_open m n moment h old.frames.bytes f.messages (lane_end new))
-      ∙ ap (λ (s : Option ℕ). piece_text m n moment h (end_of s old.frames.bytes) f.messages (lane_end new)) (sym opened) in
+      ∙ ap (λ (s : Option ℕ). piece_text m n moment h (stream_end s old.frames.bytes) f.messages (lane_end new)) (sym opened) in
       let behind : IsBehind new (fed ++ piece) (messages ++ f.messages) = record {
         tail = new.frames.bytes;
         whole = joined old new fed piece messages f.messages lane.whole f.split;
         each = subst (λ (n : ℕ). AllByRecursion (IsMessage n) (messages ++ f.messages)) (sym f.least)
             (each_append old.frames.least messages f.messages lane.each f.each);
         ends = subst (λ (n : ℕ). IsTail n (lane_end new) new.frames.bytes) (sym f.least)
-            (subst (λ (s : Option ℕ). IsTail old.frames.least (end_of s new.frames.bytes) new.frames.bytes) (sym stays) ends);
+            (subst (λ (s : Option ℕ). IsTail old.frames.least (stream_end s new.frames.bytes) new.frames.bytes) (sym stays) ends);
         held = λ none. refl;
         room = room;
       } in
@@ -168,7 +168,7 @@ feeds_piece m moment old new piece answered was is before after opened stays f w
 }
 
 -- a part of a piece was fed, and then a short frame closed the lane
-pub feeds_short : (m : Module) (moment : ℕ) (old mid new : Lane) (piece part rest : List ℕ) (answered n : ℕ) (was is : Ledger) (before between after : List ℕ → Type 0)
+pub feeds_short : (m : Module) (moment : ℕ) (old mid new : ScriptLane) (piece part rest : List ℕ) (answered n : ℕ) (was is : Ledger) (before between after : List ℕ → Type 0)
     → old.short ≡ None → piece ≡ part ++ rest → Feeds m moment old mid part answered was is before between → IsShort old.frames.least n mid.frames.bytes
     → new.short ≡ Some n → new.number ≡ mid.number → new.frames ≡ record { least = mid.frames.least; bytes = [] } → Appends between after (short_line mid.number n)
     → FeedsPiece m moment old new piece answered was is before after
@@ -183,9 +183,9 @@ feeds_short m moment old mid new piece part rest answered n was is before betwee
       answers = λ fed messages b.
           let lane = is_open old fed messages opened b in
           let text : (h : List Entry) → answer_lines m k moment h f.messages ++ short_line k n ≡ piece_text m k moment h (lane_end old) f.messages (lane_end new) = λ h.
-          ap (λ (s : Option ℕ). answer_lines m k moment h f.messages ++ after_answers k (end_of s new.frames.bytes)) (sym closed)
+          ap (λ (s : Option ℕ). answer_lines m k moment h f.messages ++ after_answers k (stream_end s new.frames.bytes)) (sym closed)
           ∙ sym (text_open m k moment h old.frames.bytes f.messages (lane_end new))
-          ∙ ap (λ (s : Option ℕ). piece_text m k moment h (end_of s old.frames.bytes) f.messages (lane_end new)) (sym opened) in
+          ∙ ap (λ (s : Option ℕ). piece_text m k moment h (stream_end s old.frames.bytes) f.messages (lane_end new)) (sym opened) in
           let behind : IsBehind new (fed ++ piece) (messages ++ f.messages) = record {
             tail = mid.frames.bytes ++ rest;
             whole =
@@ -196,7 +196,7 @@ feeds_short m moment old mid new piece part rest answered n was is before betwee
             each = subst (λ (k : ℕ). AllByRecursion (IsMessage k) (messages ++ f.messages)) (sym least)
                 (each_append old.frames.least messages f.messages lane.each f.each);
             ends = subst (λ (k : ℕ). IsTail k (lane_end new) (mid.frames.bytes ++ rest)) (sym least)
-                (subst (λ (s : Option ℕ). IsTail old.frames.least (end_of s new.frames.bytes) (mid.frames.bytes ++ rest)) (sym closed)
+                (subst (λ (s : Option ℕ). IsTail old.frames.least (stream_end s new.frames.bytes) (mid.frames.bytes ++ rest)) (sym closed)
                 (short_more old.frames.least n mid.frames.bytes rest short));
             held = λ none. absurd (cc);
             room = omega (arith, ap length bytes);
@@ -206,7 +206,7 @@ feeds_short m moment old mid new piece part rest answered n was is before betwee
     }
 
 -- a piece came after a short frame had closed the lane
-pub feeds_closed : (m : Module) (moment : ℕ) (old : Lane) (piece : List ℕ) (n : ℕ) (was : Ledger) (before after : List ℕ → Type 0)
+pub feeds_closed : (m : Module) (moment : ℕ) (old : ScriptLane) (piece : List ℕ) (n : ℕ) (was : Ledger) (before after : List ℕ → Type 0)
     → old.short ≡ Some n → Appends before after (closed_line old.number) → FeedsPiece m moment old old piece 0 was was before after
 feeds_closed m moment old piece n was before after closed printed = record {
   number = refl;
@@ -215,16 +215,16 @@ feeds_closed m moment old piece n was before after closed printed = record {
   answers = λ fed messages b.
       let k = old.number in
       let text : (h : List Entry) → closed_line k ≡ piece_text m k moment h (lane_end old) [] (lane_end old) = λ h.
-      ap (λ (s : Option ℕ). piece_text m k moment h (end_of s old.frames.bytes) [] (lane_end old)) (sym closed) in
+      ap (λ (s : Option ℕ). piece_text m k moment h (stream_end s old.frames.bytes) [] (lane_end old)) (sym closed) in
       let behind : IsBehind old (fed ++ piece) (messages ++ []) = record {
         tail = b.tail ++ piece;
         whole =
             ap (λ (front : List ℕ). front ++ piece) b.whole ∙ append_assoc (flat_map frame messages) b.tail piece
             ∙ ap (λ (all : List (List ℕ)). flat_map frame all ++ (b.tail ++ piece)) (sym (append-nil messages));
         each = subst (AllByRecursion (IsMessage old.frames.least)) (sym (append-nil messages)) b.each;
-        ends = subst (λ (s : Option ℕ). IsTail old.frames.least (end_of s old.frames.bytes) (b.tail ++ piece)) (sym closed)
+        ends = subst (λ (s : Option ℕ). IsTail old.frames.least (stream_end s old.frames.bytes) (b.tail ++ piece)) (sym closed)
             (short_more old.frames.least n b.tail piece
-            (subst (λ (s : Option ℕ). IsTail old.frames.least (end_of s old.frames.bytes) b.tail) closed b.ends));
+            (subst (λ (s : Option ℕ). IsTail old.frames.least (stream_end s old.frames.bytes) b.tail) closed b.ends));
         held = λ none. absurd (cc);
         room = b.room;
       } in

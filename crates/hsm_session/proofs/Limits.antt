@@ -48,7 +48,7 @@ use Rattle.hsm_answers.proofs.ClearAnswers.{enabled_among}
 use Rattle.hsm_session.specs.declared.script.ScriptEnd.{ScriptEnd}
 use Rattle.hsm_session.specs.Booking.{entry_of}
 use Rattle.hsm_session.specs.Lanes.{IsLine}
-use Rattle.hsm_session.specs.Runs.{Told, moment_after}
+use Rattle.hsm_session.specs.Runs.{IsRunOf, moment_after}
 use Rattle.hsm_session.specs.Scripts.{Said, Nothing, Moment, Piece, Console, script_of}
 use Rattle.hsm_session.proofs.ClearRuns.{WordsAuthorise, by_place, each_message, same_entry}
 use Rattle.hsm_session.proofs.ReadLaws.{script_within}
@@ -270,7 +270,7 @@ moment_most hosts before (Console text ∷ earlier) later most all = moment_most
 
 -- a run goes on in a legal history
 pub stays_legal : WordsAuthorise → TextsAre → MinutesStand → (m : Module) (h : List Entry) (script : List ℕ) (lines : List Said) (last : List Entry) (text : List ℕ) (over : ScriptEnd)
-    → script_of m.hosts script ≡ Ok lines → Told m h lines last text over → IsLegal h → IsLegal last
+    → script_of m.hosts script ≡ Ok lines → IsRunOf m h lines last text over → IsLegal h → IsLegal last
 stays_legal words are stand m h script lines last text over reads told legal = λ i e there.
     by_place i (length h)
     (λ less.

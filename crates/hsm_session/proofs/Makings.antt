@@ -10,16 +10,16 @@ use Rattle.hsm_auth.specs.declared.entry.Granted.{Granted}
 use Rattle.hsm_auth.specs.declared.entry.Entry.{Entry}
 use Rattle.hsm_auth.specs.History.{entry}
 use Rattle.hsm_auth.specs.Own.{own}
-use Rattle.hsm_desk.specs.Kin.{Covers, first_pair}
+use Rattle.hsm_desk.specs.Kin.{Spans, first_pair}
 use Rattle.hsm_desk.specs.Passes.{PassView, Books, Makes, OwnBooked, Sound, number}
 use Rattle.hsm_answers.specs.Clear.{Authorises}
 use Rattle.hsm_answers.specs.Messages.{Side, host, message_ask}
 use Rattle.hsm_io.specs.Moments.{tick, after_now, after_calls}
 use Rattle.hsm_rows.specs.declared.settings.Module.{Module}
-use Rattle.hsm_session.specs.declared.plans.Kind.{Kind}
-use Rattle.hsm_session.specs.declared.plans.Kind.TheVariants.{Host}
+use Rattle.hsm_auth.specs.declared.activity.Place.{Place}
+use Rattle.hsm_auth.specs.declared.activity.Place.TheVariants.{Host}
 use Rattle.hsm_session.specs.declared.serving.Count.{Count}
-use Rattle.hsm_session.specs.Connections.{AskClock, AuthoriseNothing, first_place, last_place, last_moment, is_authorise}
+use Rattle.hsm_session.specs.Connections.{AskClock, AuthoriseNothing, first_place, last_place, last_moment, asks_authorisation}
 use Rattle.hsm_session.specs.Plans.{side_of}
 use Rattle.hsm_session.specs.Serving.{Counts, kept_first, one_more, no_entry}
 
@@ -71,7 +71,7 @@ makes_more start p q entries moment ask granted place m b own_more sound =
     let same : number p ≡ number start = ap (λ (kin : List (ℕ × ℕ)). (first_pair kin).0) m.kin in
     let new : ℕ × Entry = booked_entry p moment ask granted place in
     let before : List Entry = p.seen ++ b.others in
-    let Apart : ℕ → Entry → Type 0 = λ k e. length start.seen ≤ k → (j : ℕ) (pair : ℕ × ℕ) → slice_get start.kin j ≡ Some pair → Covers pair e.pass → e.pass ≡ number start in
+    let Apart : ℕ → Entry → Type 0 = λ k e. length start.seen ≤ k → (j : ℕ) (pair : ℕ × ℕ) → slice_get start.kin j ≡ Some pair → Spans pair e.pass → e.pass ≡ number start in
     let earlier : (k : ℕ) (e : Entry) → slice_get before k ≡ Some e → Apart k e = λ k e at past j pair there covers.
     by_place k (length p.seen)
     (λ less. m.apart k e past (sym (slice_get-append_left p.seen b.others k less) ∙ at) j pair there covers)
@@ -163,7 +163,7 @@ abbrev pub WordsAuthorise : Type 0
 WordsAuthorise = (m : Module) (side : Side) (message : List ℕ) (activity : Activity) (minutes : ℕ)
     → message_ask m side message ≡ Authorise activity minutes → Authorises m side message activity minutes
 
-no_words : (m : Module) (message : List ℕ) → WordsAuthorise → (ask : Ask) → message_ask m host message ≡ ask → is_authorise ask ≡ false
+no_words : (m : Module) (message : List ℕ) → WordsAuthorise → (ask : Ask) → message_ask m host message ≡ ask → asks_authorisation ask ≡ false
 no_words m message words (Use needs drawn) is = refl
 no_words m message words (Authorise activity minutes) is = let a = (words m host message activity minutes is).of_console in absurd (cc)
 no_words m message words (Cancel activity) is = refl
@@ -174,8 +174,8 @@ no_words m message words Recent is = refl
 pub hosts_none : AuthoriseNothing []
 hosts_none = λ i placed at. absurd (cc)
 
-pub hosts_more : (m : Module) (kind : Kind) (message : List ℕ) (entries : List (ℕ × Entry)) (placed : ℕ × Entry) → WordsAuthorise
+pub hosts_more : (m : Module) (kind : Place) (message : List ℕ) (entries : List (ℕ × Entry)) (placed : ℕ × Entry) → WordsAuthorise
     → placed.1.ask ≡ message_ask m (side_of kind) message → (kind ≡ Host → AuthoriseNothing entries) → kind ≡ Host → AuthoriseNothing (entries ++ placed ∷ [])
 hosts_more m kind message entries placed words asked before is =
-    let of_host : message_ask m host message ≡ placed.1.ask = ap (λ (k : Kind). message_ask m (side_of k) message) (sym is) ∙ sym asked in
-    get_push (λ i (p : ℕ × Entry). is_authorise p.1.ask ≡ false) entries placed (before is) (no_words m message words placed.1.ask of_host)
+    let of_host : message_ask m host message ≡ placed.1.ask = ap (λ (k : Place). message_ask m (side_of k) message) (sym is) ∙ sym asked in
+    get_push (λ i (p : ℕ × Entry). asks_authorisation p.1.ask ≡ false) entries placed (before is) (no_words m message words placed.1.ask of_host)

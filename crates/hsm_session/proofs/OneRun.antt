@@ -12,7 +12,7 @@ use Rattle.hsm_answers.specs.Messages.{console}
 use Rattle.hsm_session.specs.Booking.{console_line, entries_of, entry_of, reply_of}
 use Rattle.hsm_session.specs.Scripts.{Said, Nothing, Moment, Piece, Console, script_of}
 use Rattle.hsm_session.specs.Lanes.{BringBytes}
-use Rattle.hsm_session.specs.Runs.{AreEnds, Prints, Tells, Told, brought, end_lines, got, is_cut, is_short, last_line, moment_after, moment_at, piece_text}
+use Rattle.hsm_session.specs.Runs.{AreEnds, IsRunOfLines, IsRunOfLine, IsRunOf, brought, end_lines, got, is_cut, is_short, last_line, moment_after, moment_at, piece_text}
 use Rattle.hsm_session.proofs.Existence.{ends_exist, prints_exist}
 use Rattle.hsm_session.proofs.ReadLaws.{script_brings, script_within}
 use Rattle.hsm_session.proofs.Running.{got_more, moment_more}
@@ -43,7 +43,7 @@ new_messages only least fed got_first other_fed got_other messages new some othe
 
 -- a line has one text, and books one list of entries
 pub same_line : HasOneReading → (m : Module) (h : List Entry) (earlier before : List Said) (line : Said) (more others : List Entry) (text output : List ℕ)
-    → AreAlike earlier before → Tells m h earlier line more text → Tells m h before line others output → (more ≡ others) × (text ≡ output)
+    → AreAlike earlier before → IsRunOfLine m h earlier line more text → IsRunOfLine m h before line others output → (more ≡ others) × (text ≡ output)
 same_line only m h earlier before Nothing more others text output a t s = (t.0 ∙ sym s.0, t.1 ∙ sym s.1)
 same_line only m h earlier before (Moment moment) more others text output a t s = (t.0 ∙ sym s.0, t.1 ∙ sym s.1)
 same_line only m h earlier before (Piece lane bytes) more others text output a (messages, start, new, after, f, g, booked, printed) (some, end, newer, last, p, q, entered, said) =
@@ -70,11 +70,11 @@ same_line only m h earlier before (Console message) more others text output a t 
 
 -- the later lines print one text, after one history
 pub same_lines : HasOneReading → (m : Module) (h : List Entry) (earlier before later : List Said) (last other : List Entry) (text output : List ℕ)
-    → AreAlike earlier before → Prints m h earlier later last text → Prints m h before later other output → (last ≡ other) × (text ≡ output)
+    → AreAlike earlier before → IsRunOfLines m h earlier later last text → IsRunOfLines m h before later other output → (last ≡ other) × (text ≡ output)
 same_lines only m h earlier before [] last other text output a p q = (p.0 ∙ sym q.0, p.1 ∙ sym q.1)
 same_lines only m h earlier before (line ∷ later) last other text output a (more, first, rest, t, split, p) (others, one, remains, s, parted, q) =
     let here = same_line only m h earlier before line more others first one a t s in
-    let after = subst (λ (booked : List Entry). Prints m (h ++ booked) (before ++ line ∷ []) later other remains) (sym here.0) q in
+    let after = subst (λ (booked : List Entry). IsRunOfLines m (h ++ booked) (before ++ line ∷ []) later other remains) (sym here.0) q in
     let there = same_lines only m (h ++ more) (earlier ++ line ∷ []) (before ++ line ∷ []) later last other rest remains (alike_more earlier before line a) p after in
     (there.0, split ∙ ap (λ (front : List ℕ). front ++ rest) here.1 ∙ ap (λ (back : List ℕ). one ++ back) there.1 ∙ sym parted)
 
@@ -103,13 +103,13 @@ same_counts h last other booked more ends others over end same same_end begins s
     ∙ ap (λ (n : ℕ). record { entries = end.entries; cut = end.cut; short = n }) third
 
 pub told_counts : HasOneReading → (m : Module) (h : List Entry) (lines others : List Said) (last other : List Entry) (text output : List ℕ) (over end : ScriptEnd)
-    → AreAlike lines others → last ≡ other → (t : Told m h lines last text over) (s : Told m h others other output end) → (t.ends ≡ s.ends) × (over ≡ end)
+    → AreAlike lines others → last ≡ other → (t : IsRunOf m h lines last text over) (s : IsRunOf m h others other output end) → (t.ends ≡ s.ends) × (over ≡ end)
 told_counts only m h lines others last other text output over end a same t s =
     let ends = same_ends only m lines others t.ends s.ends a t.streams s.streams in
     (ends, same_counts h last other t.booked s.booked t.ends s.ends over end same ends t.begins s.begins t.entries s.entries t.cut s.cut t.short s.short)
 
 pub only_one : HasOneReading → (m : Module) (h : List Entry) (lines : List Said) (last other : List Entry) (text output : List ℕ) (over end : ScriptEnd)
-    → Told m h lines last text over → Told m h lines other output end → (last ≡ other) × (text ≡ output) × (over ≡ end)
+    → IsRunOf m h lines last text over → IsRunOf m h lines other output end → (last ≡ other) × (text ≡ output) × (over ≡ end)
 only_one only m h lines last other text output over end t s =
     let prints = same_lines only m h [] [] lines last other t.answers s.answers (alike []) t.printed s.printed in
     let counts = told_counts only m h lines lines last other text output over end (alike lines) prints.0 t s in (
@@ -123,7 +123,7 @@ only_one only m h lines last other text output over end t s =
     )
 
 pub at_least_one : HasReading → (m : Module) (h : List Entry) (script : List ℕ) (lines : List Said) → script_of m.hosts script ≡ Ok lines
-    → (last : List Entry) × (text : List ℕ) × (over : ScriptEnd) × Told m h lines last text over
+    → (last : List Entry) × (text : List ℕ) × (over : ScriptEnd) × IsRunOf m h lines last text over
 at_least_one read m h script lines is =
     let bring : BringBytes lines = script_brings m.hosts lines (script_within m.hosts script lines is).0 in
     let p = prints_exist read m h [] lines bring in

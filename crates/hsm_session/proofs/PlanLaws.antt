@@ -10,11 +10,11 @@ use Rattle.hsm_rows.specs.Table.{RowShape, console_rows, row_A, row_C, row_VA, r
 use Rattle.hsm_answers.specs.Asks.{empty_ask, ask_of}
 use Rattle.hsm_answers.specs.Answers.{answer}
 use Rattle.hsm_answers.specs.Messages.{Side, host, console, header_of, command_of, text_after, enabled_row, unknown_answer, ask_by, answer_by, message_ask, message_answer}
-use Rattle.hsm_session.specs.declared.plans.Kind.{Kind}
-use Rattle.hsm_session.specs.declared.plans.Kind.TheVariants.{Host, Console}
+use Rattle.hsm_auth.specs.declared.activity.Place.{Place}
+use Rattle.hsm_auth.specs.declared.activity.Place.TheVariants.{Host, Console}
 use Rattle.hsm_session.specs.declared.plans.Planned.{Planned}
 use Rattle.hsm_session.specs.declared.plans.Planned.TheVariants.{Unknown}
-use Rattle.hsm_session.specs.Plans.{IsPlanned, IsOwnPlan, least_for, planned_row, planned_text, side_of}
+use Rattle.hsm_session.specs.Plans.{IsPlanOfMessage, IsOwnPlan, least_for, planned_row, planned_text, side_of}
 
 -- a list of two bytes by its bytes
 two_bytes : (code : List ℕ) → length code ≡ 2 → slice_index code 0 ∷ slice_index code 1 ∷ [] ≡ code
@@ -65,12 +65,12 @@ code_row m message code text row c found =
     ap (enabled_row m host) (sym c.is_code) ∙ ap (enabled_row m host) (sym (two_bytes code c.long)) ∙ sym found
 
 -- the plan of a message whose command has no row
-pub unknown_plan : (m : Module) (side : Side) (message : List ℕ) → enabled_row m side (command_of m side message) ≡ None → IsPlanned m side message Unknown
+pub unknown_plan : (m : Module) (side : Side) (message : List ℕ) → enabled_row m side (command_of m side message) ≡ None → IsPlanOfMessage m side message Unknown
 unknown_plan m side message none = record { row = sym none; text = λ row found. absurd (cc); own = tt }
 
 -- the plan of a message by its row
 pub row_plan : (m : Module) (side : Side) (message text : List ℕ) (row : RowShape) (planned : Planned) → enabled_row m side (command_of m side message) ≡ Some row
-    → text ≡ text_after m side message → planned_row planned ≡ Some row → planned_text planned ≡ text → IsOwnPlan m planned → IsPlanned m side message planned
+    → text ≡ text_after m side message → planned_row planned ≡ Some row → planned_text planned ≡ text → IsOwnPlan m planned → IsPlanOfMessage m side message planned
 row_plan m side message text row planned found after same read own = record { row = same ∙ sym found; text = λ other is. read ∙ after; own = own }
 
 -- no console row has an empty word
@@ -83,7 +83,7 @@ word_is_there m row [] found = absurd (no_row (list_any (bytes_eq []) m.disabled
 word_is_there m row (byte ∷ code) found = omega arith
 
 -- header and text leave room for the reply's codes
-pub room_is : (m : Module) (kind : Kind) (message : List ℕ) (row : RowShape) → least_for m kind ≤ length message → length message ≤ 65535
+pub room_is : (m : Module) (kind : Place) (message : List ℕ) (row : RowShape) → least_for m kind ≤ length message → length message ≤ 65535
     → enabled_row m (side_of kind) (command_of m (side_of kind) message) ≡ Some row
     → length (header_of m (side_of kind) message) + length (text_after m (side_of kind) message) ≤ 65534
 room_is m Host message row least most found =
@@ -93,7 +93,7 @@ room_is m Console message row least most found =
 
 -- the answer by the row of a plan, after the header
 pub planned_answer_is : (m : Module) (side : Side) (message : List ℕ) (g : Granted) (row : RowShape) (text : List ℕ) (planned : Planned)
-    → IsPlanned m side message planned → planned_row planned ≡ Some row → planned_text planned ≡ text
+    → IsPlanOfMessage m side message planned → planned_row planned ≡ Some row → planned_text planned ≡ text
     → message_answer m side message g ≡ header_of m side message ++ answer m row text g
 planned_answer_is m side message g row text planned p same read =
     row_answer_is m side message g row (sym p.row ∙ same)

@@ -11,13 +11,13 @@ use Rattle.hsm_auth.specs.declared.entry.Entry.{Entry}
 use Rattle.hsm_auth.specs.declared.ledger.Ledger.{Ledger}
 use Rattle.hsm_auth.specs.History.{IsLegal, StandsFor}
 use Rattle.hsm_rows.specs.declared.settings.Module.{Module}
-use Rattle.hsm_session.specs.declared.lane.Lane.{Lane}
+use Rattle.hsm_session.specs.declared.lane.ScriptLane.{ScriptLane}
 use Rattle.hsm_session.specs.declared.run.Run.{Run}
 use Rattle.hsm_session.specs.declared.script.ScriptEnd.{ScriptEnd}
 use Rattle.hsm_session.specs.Plans.{least_length}
 use Rattle.hsm_session.specs.Scripts.{Said}
 use Rattle.hsm_auth.specs.History.{IsKnown}
-use Rattle.hsm_session.specs.Runs.{AreEnds, Prints, Runs, Stops, end_lines, got, is_cut, is_short, last_line}
+use Rattle.hsm_session.specs.Runs.{AreEnds, IsRunOfLines, IsFinishedRun, IsStoppedRun, end_lines, got, is_cut, is_short, last_line}
 use Rattle.hsm_session.specs.Lanes.{BringBytes, Ends, IsAt, StopsLine, TakesLine, lane_end, run_end}
 use Rattle.hsm_session.proofs.Existence.{ends_exist, first_bring, prints_exist}
 use Rattle.hsm_session.proofs.Running.{framed}
@@ -32,7 +32,7 @@ pub record Written (m : Module) (h : List Entry) (lines earlier later : List Sai
   pub begins : last ≡ h ++ booked
   pub entries : run.entries ≡ length booked
   pub printed : Appends before now text
-  pub then_all : (end : List Entry) (rest : List ℕ) → Prints m last earlier later end rest → Prints m h [] lines end (text ++ rest)
+  pub then_all : (end : List Entry) (rest : List ℕ) → IsRunOfLines m last earlier later end rest → IsRunOfLines m h [] lines end (text ++ rest)
 
 -- The run stands behind the lines before, and for each history that the ledger stood for they were booked and printed.
 pub record SoFar (m : Module) (lines later : List Said) (run : Run) (was is : Ledger) (before now : List ℕ → Type 0) : Type 0 where
@@ -84,7 +84,7 @@ so_far_next m lines later line old new was between is before mid after s takes =
             entries = omega (arith, w.entries, t.4, length-append w.booked t.0);
             printed = appends_twice before mid after w.text t.1 w.printed t.3.printed;
             then_all = λ end rest p.
-                subst (λ (text : List ℕ). Prints m h [] lines end text) (sym (append_assoc w.text t.1 rest))
+                subst (λ (text : List ℕ). IsRunOfLines m h [] lines end text) (sym (append_assoc w.text t.1 rest))
                 (w.then_all end (t.1 ++ rest) (t.0, t.1, rest, t.2, refl, p));
           };
     }
@@ -103,7 +103,7 @@ ends_at m run lines at = record {
   each = λ i end is. of (slice_get run.lanes.items i) i end refl (sym (slice_get-map lane_end run.lanes.items i) ∙ is);
 }
   where
-    of : (found : Option Lane) (i : ℕ) (end : StreamEnd) → slice_get run.lanes.items i ≡ found → option_map lane_end found ≡ Some end
+    of : (found : Option ScriptLane) (i : ℕ) (end : StreamEnd) → slice_get run.lanes.items i ≡ found → option_map lane_end found ≡ Some end
         → (messages : List (List ℕ)) × Frames (least_length m) (got (i + 1) lines) messages end
     of None i end here is = absurd (cc)
     of (Some lane) i end here is =
@@ -117,7 +117,7 @@ ends_at m run lines at = record {
 -- no line is left
 pub so_far_done : (m : Module) (lines : List Said) (run : Run) (over : ScriptEnd) (was is : Ledger) (before mid after : List ℕ → Type 0)
     → SoFar m lines [] run was is before mid → Ends run over mid after
-    → (h : List Entry) → StandsFor was h → Runs m h lines over is before after
+    → (h : List Entry) → StandsFor was h → IsFinishedRun m h lines over is before after
 so_far_done m lines run over was is before mid after s ends h stands =
     let w = s.written h stands in
     let all : s.earlier ≡ lines = sym (append-nil s.earlier) ∙ s.all in
@@ -129,7 +129,7 @@ so_far_done m lines run over was is before mid after s ends h stands =
       told = record {
         answers = w.text;
         ends = map lane_end run.lanes.items;
-        printed = subst (λ (text : List ℕ). Prints m h [] lines w.last text) (append-nil w.text) (w.then_all w.last [] (refl, refl));
+        printed = subst (λ (text : List ℕ). IsRunOfLines m h [] lines w.last text) (append-nil w.text) (w.then_all w.last [] (refl, refl));
         streams = ends_at m run lines at;
         whole = sym (append_assoc w.text (end_lines 1 (map lane_end run.lanes.items)) (last_line run.entries))
             ∙ ap (λ (n : ℕ). (w.text ++ end_lines 1 (map lane_end run.lanes.items)) ++ last_line n) (sym ends.entries);
@@ -149,7 +149,7 @@ so_far_done m lines run over was is before mid after s ends h stands =
 -- a line that was not wholly written
 pub so_far_stopped : HasReading → (m : Module) (lines later : List Said) (line : Said) (run : Run) (was between is : Ledger) (before mid after : List ℕ → Type 0)
     → BringBytes lines → SoFar m lines (line ∷ later) run was between before mid → StopsLine m run line between is mid after
-    → (h : List Entry) → StandsFor was h → Stops m h lines is before after
+    → (h : List Entry) → StandsFor was h → IsStoppedRun m h lines is before after
 so_far_stopped read m lines later line run was between is before mid after bring s stops h stands =
     let w = s.written h stands in
     let earlier = s.earlier ++ line ∷ [] in
@@ -195,7 +195,7 @@ so_far_stopped read m lines later line run was between is before mid after bring
 -- the lines at the end were not wholly written
 pub so_far_cut : (m : Module) (lines : List Said) (run : Run) (was is : Ledger) (before mid after : List ℕ → Type 0)
     → SoFar m lines [] run was is before mid → AppendsFront mid after (run_end run)
-    → (h : List Entry) → StandsFor was h → Stops m h lines is before after
+    → (h : List Entry) → StandsFor was h → IsStoppedRun m h lines is before after
 so_far_cut m lines run was is before mid after s front h stands =
     let w = s.written h stands in
     let all : s.earlier ≡ lines = sym (append-nil s.earlier) ∙ s.all in
@@ -208,7 +208,7 @@ so_far_cut m lines run was is before mid after s front h stands =
       told = record {
         answers = w.text;
         ends = ends;
-        printed = subst (λ (text : List ℕ). Prints m h [] lines w.last text) (append-nil w.text) (w.then_all w.last [] (refl, refl));
+        printed = subst (λ (text : List ℕ). IsRunOfLines m h [] lines w.last text) (append-nil w.text) (w.then_all w.last [] (refl, refl));
         streams = ends_at m run lines (subst (IsAt m run) all s.at);
         whole = sym (append_assoc w.text (end_lines 1 ends) (last_line run.entries));
         booked = w.booked;

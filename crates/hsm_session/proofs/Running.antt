@@ -10,11 +10,11 @@ use Rattle.hsm_auth.specs.declared.ledger.Ledger.{Ledger}
 use Rattle.hsm_auth.specs.History.{StandsFor}
 use Rattle.hsm_answers.specs.Messages.{console}
 use Rattle.hsm_rows.specs.declared.settings.Module.{Module}
-use Rattle.hsm_session.specs.declared.lane.Lane.{Lane}
+use Rattle.hsm_session.specs.declared.lane.ScriptLane.{ScriptLane}
 use Rattle.hsm_session.specs.declared.run.Run.{Run}
 use Rattle.hsm_session.specs.Plans.{least_length}
 use Rattle.hsm_session.specs.Scripts.{Said, Nothing, Moment, Piece, Console}
-use Rattle.hsm_session.specs.Booking.{Books, BooksFront, console_line, entries_of, entry_of, reply_of}
+use Rattle.hsm_session.specs.Booking.{IsBooked, BooksFront, console_line, entries_of, entry_of, reply_of}
 use Rattle.hsm_session.specs.Runs.{brought, got, moment_after, moment_at, piece_text}
 use Rattle.hsm_session.specs.Lanes.{AreBytes, FeedsPiece, IsAt, IsBehind, IsLaneAt, StopsLine, StopsPiece, TakesLine, all_held, lane_end}
 use Rattle.hsm_session.proofs.BookingLaws.{books_nothing, length-entries}
@@ -44,7 +44,7 @@ at_quiet m old new earlier line at same none moment = record {
   count = ap length same ∙ at.count;
   lanes = λ i lane is.
       subst (λ (fed : List ℕ). IsLaneAt m (i + 1) fed lane) (got_same (i + 1) earlier line (none (i + 1)))
-      (at.lanes i lane (ap (λ (lanes : List Lane). slice_get lanes i) (sym same) ∙ is));
+      (at.lanes i lane (ap (λ (lanes : List ScriptLane). slice_get lanes i) (sym same) ∙ is));
   moment = moment;
 }
 
@@ -70,7 +70,7 @@ takes_moment m old new moment was before same set_to kept = record {
 pub takes_console : (m : Module) (old new : Run) (text : List ℕ) (was is : Ledger) (before after : List ℕ → Type 0)
     → new.lanes.items ≡ old.lanes.items → new.moment ≡ old.moment → new.entries ≡ old.entries + 1
     → ((h : List Entry) → StandsFor was h
-    → Books h (entry_of m console old.moment h text ∷ []) (console_line (reply_of m console old.moment h text)) is before after)
+    → IsBooked h (entry_of m console old.moment h text ∷ []) (console_line (reply_of m console old.moment h text)) is before after)
     → TakesLine m old new (Console text) was is before after
 takes_console m old new text was is before after same moment one books = record {
   spent = omega (arith, one, ap all_held same);
@@ -80,14 +80,14 @@ takes_console m old new text was is before after same moment one books = record 
       entry_of m console (moment_at earlier) h text ∷ [],
       console_line (reply_of m console (moment_at earlier) h text),
       (refl, refl),
-      subst (λ (now : ℕ). Books h (entry_of m console now h text ∷ []) (console_line (reply_of m console now h text)) is before after) at.moment (books h stands),
+      subst (λ (now : ℕ). IsBooked h (entry_of m console now h text ∷ []) (console_line (reply_of m console now h text)) is before after) at.moment (books h stands),
       one,
     ),
   );
 }
 
 -- what a lane got and answered, as a reading of its stream
-pub framed : (m : Module) (place : ℕ) (fed : List ℕ) (lane : Lane) (messages : List (List ℕ)) → lane.frames.least ≡ least_length m → IsBehind lane fed messages
+pub framed : (m : Module) (place : ℕ) (fed : List ℕ) (lane : ScriptLane) (messages : List (List ℕ)) → lane.frames.least ≡ least_length m → IsBehind lane fed messages
     → Frames (least_length m) fed messages (lane_end lane)
 framed m place fed lane messages least b =
     subst (λ (n : ℕ). Frames n fed messages (lane_end lane)) least (record { tail = b.tail; whole = b.whole; each = b.each; ends = b.ends })
@@ -104,20 +104,20 @@ brought_here lane piece =
     ap (λ (test : Bool). if test then piece else []) yes
 
 -- the lane of a piece
-lane_fed : (m : Module) (moment place : ℕ) (fed : List ℕ) (old new : Lane) (piece : List ℕ) (answered : ℕ) (was is : Ledger) (before after : List ℕ → Type 0)
+lane_fed : (m : Module) (moment place : ℕ) (fed : List ℕ) (old new : ScriptLane) (piece : List ℕ) (answered : ℕ) (was is : Ledger) (before after : List ℕ → Type 0)
     → IsLaneAt m place fed old → FeedsPiece m moment old new piece answered was is before after → IsLaneAt m place (fed ++ piece) new
 lane_fed m moment place fed old new piece answered was is before after at feeds =
     let f = feeds.answers fed at.messages at.behind in
     record { number = feeds.number ∙ at.number; least = feeds.least ∙ at.least; messages = at.messages ++ f.0; behind = f.1 }
 
-pub takes_piece : (m : Module) (old new : Run) (lane fed : Lane) (place : ℕ) (piece : List ℕ) (answered : ℕ) (was is : Ledger) (before after : List ℕ → Type 0)
+pub takes_piece : (m : Module) (old new : Run) (lane fed : ScriptLane) (place : ℕ) (piece : List ℕ) (answered : ℕ) (was is : Ledger) (before after : List ℕ → Type 0)
     → slice_get old.lanes.items place ≡ Some lane → FeedsPiece m old.moment lane fed piece answered was is before after
     → new.lanes.items ≡ set old.lanes.items place fed → new.moment ≡ old.moment → new.entries ≡ old.entries + answered
     → TakesLine m old new (Piece (place + 1) piece) was is before after
 takes_piece m old new lane fed place piece answered was is before after here feeds lanes moment entries =
     let line = Piece (place + 1) piece in
     let within = slice_get_within old.lanes.items place lane here in
-    let held = λ (l : Lane). length l.frames.bytes in
+    let held = λ (l : ScriptLane). length l.frames.bytes in
     let sum = sum_by-set held old.lanes.items place fed lane within in
     let there : get_or old.lanes.items place lane ≡ lane = get_or_from_slice_get old.lanes.items place lane lane here in
     record {
@@ -130,13 +130,13 @@ takes_piece m old new lane fed place piece answered was is before after here fee
           let after_it : IsLaneAt m (place + 1) (got (place + 1) (earlier ++ line ∷ [])) fed =
           subst (λ (bytes : List ℕ). IsLaneAt m (place + 1) bytes fed) whole
           (lane_fed m old.moment (place + 1) (got (place + 1) earlier) lane fed piece answered was is before after lane_at feeds) in
-          let each = each_set (λ (i : ℕ) (l : Lane). IsLaneAt m (i + 1) (got (i + 1) earlier) l)
-          (λ (i : ℕ) (l : Lane). IsLaneAt m (i + 1) (got (i + 1) (earlier ++ line ∷ [])) l) old.lanes.items place fed at.lanes
+          let each = each_set (λ (i : ℕ) (l : ScriptLane). IsLaneAt m (i + 1) (got (i + 1) earlier) l)
+          (λ (i : ℕ) (l : ScriptLane). IsLaneAt m (i + 1) (got (i + 1) (earlier ++ line ∷ [])) l) old.lanes.items place fed at.lanes
           (λ i l differs was_at. subst (λ (bytes : List ℕ). IsLaneAt m (i + 1) bytes l)
           (got_same (i + 1) earlier line (brought_none (i + 1) (place + 1) piece (λ e. differs (omega arith)))) was_at) after_it in
           let at_new : IsAt m new (earlier ++ line ∷ []) = record {
             count = ap length lanes ∙ length-set old.lanes.items place fed ∙ at.count;
-            lanes = λ i l got_at. each i l (ap (λ (ls : List Lane). slice_get ls i) (sym lanes) ∙ got_at);
+            lanes = λ i l got_at. each i l (ap (λ (ls : List ScriptLane). slice_get ls i) (sym lanes) ∙ got_at);
             moment = moment ∙ at.moment ∙ sym (moment_more 0 earlier line);
           } in (
             at_new,
@@ -144,9 +144,9 @@ takes_piece m old new lane fed place piece answered was is before after here fee
                 let now = moment_at earlier in
                 let text = λ (n t : ℕ). piece_text m n t h (lane_end lane) f.0 (lane_end fed) in
                 let books = f.3 h stands in
-                let books_there : Books h (entries_of m now h f.0) (text (place + 1) now) is before after =
-                subst (λ (n : ℕ). Books h (entries_of m now h f.0) (text n now) is before after) lane_at.number
-                (subst (λ (t : ℕ). Books h (entries_of m t h f.0) (text lane.number t) is before after) at.moment books) in (
+                let books_there : IsBooked h (entries_of m now h f.0) (text (place + 1) now) is before after =
+                subst (λ (n : ℕ). IsBooked h (entries_of m now h f.0) (text n now) is before after) lane_at.number
+                (subst (λ (t : ℕ). IsBooked h (entries_of m t h f.0) (text lane.number t) is before after) at.moment books) in (
                   entries_of m now h f.0,
                   text (place + 1) now,
                   (
@@ -167,7 +167,7 @@ takes_piece m old new lane fed place piece answered was is before after here fee
     }
 
 -- a piece whose answers were not wholly written
-pub stops_at_piece : (m : Module) (old : Run) (lane : Lane) (place : ℕ) (piece : List ℕ) (was is : Ledger) (before after : List ℕ → Type 0)
+pub stops_at_piece : (m : Module) (old : Run) (lane : ScriptLane) (place : ℕ) (piece : List ℕ) (was is : Ledger) (before after : List ℕ → Type 0)
     → slice_get old.lanes.items place ≡ Some lane → StopsPiece m old.moment lane piece was is before after
     → StopsLine m old (Piece (place + 1) piece) was is before after
 stops_at_piece m old lane place piece was is before after here stops = λ earlier bring at h stands.

@@ -10,15 +10,15 @@ use Rattle.hsm_auth.specs.declared.ledger.Ledger.{Ledger}
 use Rattle.hsm_rows.specs.declared.settings.Module.{Module}
 use Rattle.hsm_session.specs.Booking.{answer_lines, entries_of, BooksSome}
 use Rattle.hsm_session.specs.Runs.{piece_text, after_answers, short_line, closed_line}
-use Rattle.hsm_session.specs.Lanes.{AreBytes, StopsDraining, StopsPiece, end_of, lane_end}
-use Rattle.hsm_session.specs.declared.lane.Lane.{Lane}
+use Rattle.hsm_session.specs.Lanes.{AreBytes, StopsDraining, StopsPiece, stream_end, lane_end}
+use Rattle.hsm_session.specs.declared.lane.ScriptLane.{ScriptLane}
 use Rattle.hsm_session.proofs.Answering.{each_append}
 use Rattle.hsm_session.proofs.BookingLaws.{books_nothing, front_after, front_same, front_text, some_longer, some_more}
 use Rattle.hsm_session.proofs.Feeding.{Feeds, is_open, short_more, text_open}
 use Rattle.hsm_session.proofs.Streams.{bytes_right, frames_after, parts_joined}
 
 -- an answer to a message of a part was not wholly written
-pub stops_part : HasReading → (m : Module) (moment : ℕ) (old mid : Lane) (piece part next rest : List ℕ) (answered : ℕ) (held : Held) (was between is : Ledger) (before now after : List ℕ → Type 0)
+pub stops_part : HasReading → (m : Module) (moment : ℕ) (old mid : ScriptLane) (piece part next rest : List ℕ) (answered : ℕ) (held : Held) (was between is : Ledger) (before now after : List ℕ → Type 0)
     → old.short ≡ None → piece ≡ (part ++ next) ++ rest → Feeds m moment old mid part answered was between before now
     → held ≡ record { least = mid.frames.least; bytes = mid.frames.bytes ++ next }
     → StopsDraining m mid.number moment held between is now after
@@ -51,7 +51,7 @@ stops_part read m moment old mid piece part next rest answered held was between 
     (subst (λ (n : ℕ). BooksSome m n moment d.messages between is now after) f.number d.booked)) in
     let text : (h : List Entry) → answer_lines m k moment h more ++ after_answers k later.1 ≡ piece_text m k moment h (lane_end old) more later.1 = λ h.
     sym (text_open m k moment h old.frames.bytes more later.1)
-    ∙ ap (λ (s : Option ℕ). piece_text m k moment h (end_of s old.frames.bytes) more later.1) (sym opened) in (
+    ∙ ap (λ (s : Option ℕ). piece_text m k moment h (stream_end s old.frames.bytes) more later.1) (sym opened) in (
       more,
       later.1,
       frames,
@@ -60,7 +60,7 @@ stops_part read m moment old mid piece part next rest answered held was between 
     )
 
 -- that a short frame closed the lane was not wholly written
-pub stops_short : (m : Module) (moment : ℕ) (old mid : Lane) (piece part rest : List ℕ) (answered n : ℕ) (was is : Ledger) (before between after : List ℕ → Type 0)
+pub stops_short : (m : Module) (moment : ℕ) (old mid : ScriptLane) (piece part rest : List ℕ) (answered n : ℕ) (was is : Ledger) (before between after : List ℕ → Type 0)
     → old.short ≡ None → piece ≡ part ++ rest → Feeds m moment old mid part answered was is before between → IsShort old.frames.least n mid.frames.bytes
     → AppendsFront between after (short_line mid.number n)
     → StopsPiece m moment old piece was is before after
@@ -79,7 +79,7 @@ stops_short m moment old mid piece part rest answered n was is before between af
     } in
     let text : (h : List Entry) → answer_lines m k moment h f.messages ++ short_line k n ≡ piece_text m k moment h (lane_end old) f.messages (Short n) = λ h.
     sym (text_open m k moment h old.frames.bytes f.messages (Short n))
-    ∙ ap (λ (s : Option ℕ). piece_text m k moment h (end_of s old.frames.bytes) f.messages (Short n)) (sym opened) in
+    ∙ ap (λ (s : Option ℕ). piece_text m k moment h (stream_end s old.frames.bytes) f.messages (Short n)) (sym opened) in
     let printed_there : AppendsFront between after (short_line k n) = subst (λ (j : ℕ). AppendsFront between after (short_line j n)) f.number printed in (
       f.messages,
       Short n,
@@ -89,7 +89,7 @@ stops_short m moment old mid piece part rest answered n was is before between af
     )
 
 -- that a lane is closed was not wholly written
-pub stops_closed : (m : Module) (moment : ℕ) (old : Lane) (piece : List ℕ) (n : ℕ) (was : Ledger) (before after : List ℕ → Type 0)
+pub stops_closed : (m : Module) (moment : ℕ) (old : ScriptLane) (piece : List ℕ) (n : ℕ) (was : Ledger) (before after : List ℕ → Type 0)
     → old.short ≡ Some n → AppendsFront before after (closed_line old.number) → StopsPiece m moment old piece was was before after
 stops_closed m moment old piece n was before after closed printed = λ fed messages bytes b.
     let k = old.number in
@@ -100,10 +100,10 @@ stops_closed m moment old piece n was before after closed printed = λ fed messa
           ap (λ (front : List ℕ). front ++ piece) b.whole ∙ append_assoc (flat_map frame messages) b.tail piece
           ∙ ap (λ (all : List (List ℕ)). flat_map frame all ++ (b.tail ++ piece)) (sym (append-nil messages));
       each = subst (AllByRecursion (IsMessage least)) (sym (append-nil messages)) b.each;
-      ends = short_more least n b.tail piece (subst (λ (s : Option ℕ). IsTail least (end_of s old.frames.bytes) b.tail) closed b.ends);
+      ends = short_more least n b.tail piece (subst (λ (s : Option ℕ). IsTail least (stream_end s old.frames.bytes) b.tail) closed b.ends);
     } in
     let text : (h : List Entry) → closed_line k ≡ piece_text m k moment h (lane_end old) [] (Short n) = λ h.
-    ap (λ (s : Option ℕ). piece_text m k moment h (end_of s old.frames.bytes) [] (Short n)) (sym closed) in (
+    ap (λ (s : Option ℕ). piece_text m k moment h (stream_end s old.frames.bytes) [] (Short n)) (sym closed) in (
       [],
       Short n,
       frames,

@@ -18,14 +18,14 @@ use Rattle.hsm_io.specs.Connections.{Traffic, Exchanges, IsSilent}
 use Rattle.hsm_io.specs.Gates as gates
 use Rattle.hsm_io.specs.Moments.{tick, after_now}
 use Rattle.hsm_rows.specs.declared.settings.Module.{Module}
-use Rattle.hsm_session.specs.declared.plans.Kind.{Kind}
+use Rattle.hsm_auth.specs.declared.activity.Place.{Place}
 use Rattle.hsm_session.specs.declared.serving.ConnEnd.{ConnEnd}
 use Rattle.hsm_session.specs.declared.serving.ConnEnd.TheVariants.{Clean, Cut, Short, ReadFault, WriteFault}
 use Rattle.hsm_session.specs.declared.serving.Count.{Count}
-use Rattle.hsm_session.specs.Connections.{Hears, IsEntryFor, Leaves, Says, Scene, framed_answers, scene}
+use Rattle.hsm_session.specs.Connections.{Hears, IsEntryFor, Leaves, WritesAnswers, Scene, framed_answers, scene}
 use Rattle.hsm_session.specs.Lanes.{AreBytes, IsWaiting}
 use Rattle.hsm_session.specs.Plans.{least_for, side_of}
-use Rattle.hsm_session.specs.Serving.{Going, Holding, Over, Sends, SendsFront, Steps, holding, no_entry, one_more}
+use Rattle.hsm_session.specs.Serving.{IsServing, Holding, EndsServing, Sends, SendsFront, Steps, holding, no_entry, one_more}
 use Rattle.hsm_session.proofs.Answering.{each_more}
 use Rattle.hsm_session.proofs.Gating.{gate_more, gate_none}
 use Rattle.hsm_session.proofs.Makings.{WordsAuthorise, booked_entry, clock_more, clock_none, counts_more, counts_none, hosts_more, hosts_none, makes_more, makes_none, zip_push}
@@ -97,7 +97,7 @@ answers_push m side (first ∷ messages) (e ∷ entries) message placed all =
     ∙ sym (append_assoc (frame (message_answer m side first e.1.granted)) (framed_answers m side messages entries) (frame (message_answer m side message placed.1.granted)))
 
 -- nothing was done yet
-going_starts : (m : Module) (kind : Kind) (lane : ℕ) (s : Scene) → Sound s.pass → Going m kind lane s s (holding [] [] no_entry)
+going_starts : (m : Module) (kind : Place) (lane : ℕ) (s : Scene) → Sound s.pass → IsServing m kind lane s s (holding [] [] no_entry)
 going_starts m kind lane s sound = record {
   messages = [];
   entries = [];
@@ -112,12 +112,12 @@ going_starts m kind lane s sound = record {
   told = λ t is. (t, is, [], exchanges_none t, refl);
 }
 
-pub starts_at : (m : Module) (kind : Kind) (lane : ℕ) (s : Scene) (held out : List ℕ) (count : Count)
-    → held ≡ [] → out ≡ [] → count ≡ no_entry → Sound s.pass → Going m kind lane s s (holding held out count)
+pub starts_at : (m : Module) (kind : Place) (lane : ℕ) (s : Scene) (held out : List ℕ) (count : Count)
+    → held ≡ [] → out ≡ [] → count ≡ no_entry → Sound s.pass → IsServing m kind lane s s (holding held out count)
 starts_at m kind lane s held out count unheard unsaid none sound =
-    subst (λ (z : List ℕ). Going m kind lane s s (holding z out count)) (sym unheard)
-    (subst (λ (z : List ℕ). Going m kind lane s s (holding [] z count)) (sym unsaid)
-    (subst (λ (z : Count). Going m kind lane s s (holding [] [] z)) (sym none) (going_starts m kind lane s sound)))
+    subst (λ (z : List ℕ). IsServing m kind lane s s (holding z out count)) (sym unheard)
+    (subst (λ (z : List ℕ). IsServing m kind lane s s (holding [] z count)) (sym unsaid)
+    (subst (λ (z : Count). IsServing m kind lane s s (holding [] [] z)) (sym none) (going_starts m kind lane s sound)))
 
 pub waits_at_start : (least : ℕ) (held : List ℕ) → held ≡ [] → IsWaiting least held
 waits_at_start least held none = record {
@@ -126,7 +126,7 @@ waits_at_start least held none = record {
 }
 
 -- a message is booked, and its answer is gathered
-pub going_books : (m : Module) (kind : Kind) (lane : ℕ) (start old new : Scene) (between : Option (List gates.GateCall))
+pub going_books : (m : Module) (kind : Place) (lane : ℕ) (start old new : Scene) (between : Option (List gates.GateCall))
     (message rest out reply : List ℕ) (count : Count) (ask : Ask) (granted : Granted) (place : ℕ) → WordsAuthorise
     → IsMessage (least_for m kind) message → ask ≡ message_ask m (side_of kind) message → reply ≡ message_answer m (side_of kind) message granted
     → Books old.pass new.pass new.last ask granted place → OwnBooked old.pass new.pass new.last ask granted place → Sound new.pass
@@ -134,8 +134,8 @@ pub going_books : (m : Module) (kind : Kind) (lane : ℕ) (start old new : Scene
     → ((c : List gates.GateCall) → old.calls ≡ Some c → between ≡ Some (c ++ gates.before lane count.messages ∷ []))
     → ((c : List gates.GateCall) → between ≡ Some c → new.calls ≡ Some (c ++ gates.after lane count.messages ∷ []))
     → new.traffic ≡ old.traffic
-    → Going m kind lane start old (holding (frame message ++ rest) out count)
-    → Going m kind lane start new (holding rest (out ++ frame reply) (one_more count place))
+    → IsServing m kind lane start old (holding (frame message ++ rest) out count)
+    → IsServing m kind lane start new (holding rest (out ++ frame reply) (one_more count place))
 going_books m kind lane start old new between message rest out reply count ask granted place words valid asked answered books own sound ticks first second same g =
     let placed : ℕ × Entry = booked_entry old.pass new.last ask granted place in
     record {
@@ -163,9 +163,9 @@ abbrev pub at_traffic : Scene → Option Traffic → Scene
 at_traffic s traffic = scene s.pass s.last s.moments s.calls traffic
 
 -- a part of what is gathered is written
-pub going_sends : (m : Module) (kind : Kind) (lane : ℕ) (start now : Scene) (traffic : Option Traffic) (held out rest : List ℕ) (count : Count)
+pub going_sends : (m : Module) (kind : Place) (lane : ℕ) (start now : Scene) (traffic : Option Traffic) (held out rest : List ℕ) (count : Count)
     → Sends now.traffic traffic out rest
-    → Going m kind lane start now (holding held out count) → Going m kind lane start (at_traffic now traffic) (holding held rest count)
+    → IsServing m kind lane start now (holding held out count) → IsServing m kind lane start (at_traffic now traffic) (holding held rest count)
 going_sends m kind lane start now traffic held out rest count sends g = record {
   messages = g.messages;
   entries = g.entries;
@@ -191,22 +191,22 @@ going_sends m kind lane start now traffic held out rest count sends g = record {
 }
 
 -- the same bytes by another name
-pub going_at : (m : Module) (kind : Kind) (lane : ℕ) (start now : Scene) (held same out : List ℕ) (count : Count) → held ≡ same
-    → Going m kind lane start now (holding held out count) → Going m kind lane start now (holding same out count)
-going_at m kind lane start now held same out count is g = subst (λ (bytes : List ℕ). Going m kind lane start now (holding bytes out count)) is g
+pub going_at : (m : Module) (kind : Place) (lane : ℕ) (start now : Scene) (held same out : List ℕ) (count : Count) → held ≡ same
+    → IsServing m kind lane start now (holding held out count) → IsServing m kind lane start now (holding same out count)
+going_at m kind lane start now held same out count is g = subst (λ (bytes : List ℕ). IsServing m kind lane start now (holding bytes out count)) is g
 
 -- the reply that was gathered last is written in part, or not
-pub going_gathers : (m : Module) (kind : Kind) (lane : ℕ) (start now : Scene) (traffic : Option Traffic) (held out rest reply shown : List ℕ) (count : Count)
+pub going_gathers : (m : Module) (kind : Place) (lane : ℕ) (start now : Scene) (traffic : Option Traffic) (held out rest reply shown : List ℕ) (count : Count)
     → shown ≡ reply → Sends now.traffic traffic (out ++ frame shown) rest
-    → Going m kind lane start now (holding held (out ++ frame reply) count) → Going m kind lane start (at_traffic now traffic) (holding held rest count)
+    → IsServing m kind lane start now (holding held (out ++ frame reply) count) → IsServing m kind lane start (at_traffic now traffic) (holding held rest count)
 going_gathers m kind lane start now traffic held out rest reply shown count same sends g =
     going_sends m kind lane start now traffic held (out ++ frame reply) rest count
     (subst (λ (text : List ℕ). Sends now.traffic traffic (out ++ frame text) rest) same sends) g
 
 -- a piece is read
-pub going_reads : (m : Module) (kind : Kind) (lane : ℕ) (start now : Scene) (traffic : Option Traffic) (held out piece : List ℕ) (count : Count) → AreBytes piece
+pub going_reads : (m : Module) (kind : Place) (lane : ℕ) (start now : Scene) (traffic : Option Traffic) (held out piece : List ℕ) (count : Count) → AreBytes piece
     → ((s : Traffic) → now.traffic ≡ Some s → (t : Traffic) × (traffic ≡ Some t) × Exchanges s t piece [])
-    → Going m kind lane start now (holding held out count) → Going m kind lane start (at_traffic now traffic) (holding (held ++ piece) out count)
+    → IsServing m kind lane start now (holding held out count) → IsServing m kind lane start (at_traffic now traffic) (holding (held ++ piece) out count)
 going_reads m kind lane start now traffic held out piece count are reads g = record {
   messages = g.messages;
   entries = g.entries;
@@ -229,12 +229,12 @@ going_reads m kind lane start now traffic held out piece count are reads g = rec
 }
 
 -- what passed over a link of which nothing was read or written before
-record Passed (m : Module) (kind : Kind) (s t : Traffic) (held out : List ℕ) (messages : List (List ℕ)) (entries : List (ℕ × Entry)) : Type 0 where
+record Passed (m : Module) (kind : Place) (s t : Traffic) (held out : List ℕ) (messages : List (List ℕ)) (entries : List (ℕ × Entry)) : Type 0 where
   bytes : s.left ≡ t.was_read ++ t.left
   heard : t.was_read ≡ flat_map frame messages ++ held
   said : framed_answers m (side_of kind) messages entries ≡ t.written ++ out
 
-passed : (m : Module) (kind : Kind) (s t : Traffic) (held out said : List ℕ) (messages : List (List ℕ)) (entries : List (ℕ × Entry))
+passed : (m : Module) (kind : Place) (s t : Traffic) (held out said : List ℕ) (messages : List (List ℕ)) (entries : List (ℕ × Entry))
     → s.was_read ≡ [] → s.written ≡ [] → Exchanges s t (flat_map frame messages ++ held) said → framed_answers m (side_of kind) messages entries ≡ said ++ out
     → Passed m kind s t held out messages entries
 passed m kind s t held out said messages entries unread unsaid e texts =
@@ -249,11 +249,11 @@ passed m kind s t held out said messages entries unread unsaid e texts =
 -- what a connection's end leaves held, gathered and left to read
 record Closes (least : ℕ) (traffic : Option Traffic) (held out : List ℕ) (ended : ConnEnd) : Type 0 where
   hears : (heard : List ℕ) (messages : List (List ℕ)) → AreBytes held → AllByRecursion (IsMessage least) messages → heard ≡ flat_map frame messages ++ held → Hears least heard messages ended
-  says : (said answers : List ℕ) → answers ≡ said ++ out → Says said answers ended
+  says : (said answers : List ℕ) → answers ≡ said ++ out → WritesAnswers said answers ended
   leaves : (t : Traffic) → traffic ≡ Some t → Leaves t.left ended
 
-over : (m : Module) (kind : Kind) (lane : ℕ) (start now : Scene) (held out : List ℕ) (count : Count) (ended : ConnEnd) → Closes (least_for m kind) now.traffic held out ended
-    → IsSilent start.traffic → Going m kind lane start now (holding held out count) → Over m kind lane start now count ended
+over : (m : Module) (kind : Place) (lane : ℕ) (start now : Scene) (held out : List ℕ) (count : Count) (ended : ConnEnd) → Closes (least_for m kind) now.traffic held out ended
+    → IsSilent start.traffic → IsServing m kind lane start now (holding held out count) → EndsServing m kind lane start now count ended
 over m kind lane start now held out count ended closes silent g = record {
   messages = g.messages;
   entries = g.entries;
@@ -286,8 +286,8 @@ tail_ends : (least : ℕ) (heard held : List ℕ) (messages : List (List ℕ)) (
 tail_ends least heard held messages end tail valid whole = record { tail = held; whole = whole; each = valid; ends = tail }
 
 -- the input ended behind a whole frame
-pub over_clean : (m : Module) (kind : Kind) (lane : ℕ) (start now : Scene) (count : Count) → ((t : Traffic) → now.traffic ≡ Some t → t.left ≡ [])
-    → IsSilent start.traffic → Going m kind lane start now (holding [] [] count) → Over m kind lane start now count Clean
+pub over_clean : (m : Module) (kind : Place) (lane : ℕ) (start now : Scene) (count : Count) → ((t : Traffic) → now.traffic ≡ Some t → t.left ≡ [])
+    → IsSilent start.traffic → IsServing m kind lane start now (holding [] [] count) → EndsServing m kind lane start now count Clean
 over_clean m kind lane start now count left = over m kind lane start now [] [] count Clean (record {
   hears = λ heard messages are valid whole. tail_ends (least_for m kind) heard [] messages Whole refl valid whole;
   says = all_said;
@@ -299,9 +299,9 @@ part_of least [] some waits = absurd (omega (arith, some))
 part_of least (byte ∷ held) some waits = waits
 
 -- the input ended within a frame
-pub over_cut : (m : Module) (kind : Kind) (lane : ℕ) (start now : Scene) (held : List ℕ) (count : Count) → 0 < length held → IsNotYet (least_for m kind) held
+pub over_cut : (m : Module) (kind : Place) (lane : ℕ) (start now : Scene) (held : List ℕ) (count : Count) → 0 < length held → IsNotYet (least_for m kind) held
     → ((t : Traffic) → now.traffic ≡ Some t → t.left ≡ [])
-    → IsSilent start.traffic → Going m kind lane start now (holding held [] count) → Over m kind lane start now count Cut
+    → IsSilent start.traffic → IsServing m kind lane start now (holding held [] count) → EndsServing m kind lane start now count Cut
 over_cut m kind lane start now held count some waits left = over m kind lane start now held [] count Cut (record {
   hears = λ heard messages are valid whole. tail_ends (least_for m kind) heard held messages Part (part_of (least_for m kind) held some waits) valid whole;
   says = all_said;
@@ -309,8 +309,8 @@ over_cut m kind lane start now held count some waits left = over m kind lane sta
 })
 
 -- a short frame came
-pub over_short : (m : Module) (kind : Kind) (lane : ℕ) (start now : Scene) (held : List ℕ) (count : Count) (n : ℕ) → IsShort (least_for m kind) n held
-    → IsSilent start.traffic → Going m kind lane start now (holding held [] count) → Over m kind lane start now count (Short n)
+pub over_short : (m : Module) (kind : Place) (lane : ℕ) (start now : Scene) (held : List ℕ) (count : Count) (n : ℕ) → IsShort (least_for m kind) n held
+    → IsSilent start.traffic → IsServing m kind lane start now (holding held [] count) → EndsServing m kind lane start now count (Short n)
 over_short m kind lane start now held count n short = over m kind lane start now held [] count (Short n) (record {
   hears = λ heard messages are valid whole. tail_ends (least_for m kind) heard held messages (stream.Short n) short valid whole;
   says = all_said;
@@ -323,8 +323,8 @@ hears_fault least heard [] messages waits valid whole = inl (tail_ends least hea
 hears_fault least heard (byte ∷ held) messages waits valid whole = inr (tail_ends least heard (byte ∷ held) messages Part waits valid whole)
 
 -- a read failed
-pub over_read_fault : (m : Module) (kind : Kind) (lane : ℕ) (start now : Scene) (held : List ℕ) (count : Count) → IsNotYet (least_for m kind) held
-    → IsSilent start.traffic → Going m kind lane start now (holding held [] count) → Over m kind lane start now count ReadFault
+pub over_read_fault : (m : Module) (kind : Place) (lane : ℕ) (start now : Scene) (held : List ℕ) (count : Count) → IsNotYet (least_for m kind) held
+    → IsSilent start.traffic → IsServing m kind lane start now (holding held [] count) → EndsServing m kind lane start now count ReadFault
 over_read_fault m kind lane start now held count waits = over m kind lane start now held [] count ReadFault (record {
   hears = λ heard messages are valid whole. hears_fault (least_for m kind) heard held messages waits valid whole;
   says = all_said;
@@ -332,8 +332,8 @@ over_read_fault m kind lane start now held count waits = over m kind lane start 
 })
 
 -- a write failed
-pub over_write_fault : HasReading → (m : Module) (kind : Kind) (lane : ℕ) (start now : Scene) (held out : List ℕ) (count : Count)
-    → IsSilent start.traffic → Going m kind lane start now (holding held out count) → Over m kind lane start now count WriteFault
+pub over_write_fault : HasReading → (m : Module) (kind : Place) (lane : ℕ) (start now : Scene) (held out : List ℕ) (count : Count)
+    → IsSilent start.traffic → IsServing m kind lane start now (holding held out count) → EndsServing m kind lane start now count WriteFault
 over_write_fault reading m kind lane start now held out count = over m kind lane start now held out count WriteFault (record {
   hears = λ heard messages are valid whole.
       let r = reading (least_for m kind) held are in
@@ -343,8 +343,8 @@ over_write_fault reading m kind lane start now held out count = over m kind lane
 })
 
 -- what was done before a part of the work
-pub steps_after : (m : Module) (kind : Kind) (lane : ℕ) (old mid new : Scene) (first fed last : Holding) (ended : Option ConnEnd)
-    → ((start : Scene) → Going m kind lane start old first → Going m kind lane start mid fed)
+pub steps_after : (m : Module) (kind : Place) (lane : ℕ) (old mid new : Scene) (first fed last : Holding) (ended : Option ConnEnd)
+    → ((start : Scene) → IsServing m kind lane start old first → IsServing m kind lane start mid fed)
     → Steps m kind lane mid new fed last ended → Steps m kind lane old new first last ended
 steps_after m kind lane old mid new first fed last None earlier s = (s.0, λ start g. s.1 start (earlier start g))
 steps_after m kind lane old mid new first fed last (Some end) earlier s = λ start silent g. s start silent (earlier start g)

@@ -41,7 +41,7 @@ answer_lines m lane moment h (message ∷ messages) =
     reply_line lane (reply_of m host moment h message) ++ answer_lines m lane moment (h ++ entry_of m host moment h message ∷ []) messages
 
 -- After the history h these entries were booked, and this text was written.
-pub record Books (h more : List Entry) (text : List ℕ) (ledger : Ledger) (before after : List ℕ → Type 0) : Type 0 where
+pub record IsBooked (h more : List Entry) (text : List ℕ) (ledger : Ledger) (before after : List ℕ → Type 0) : Type 0 where
   pub stands : StandsFor ledger (h ++ more)
   pub legal : IsLegal h → IsLegal (h ++ more)
   pub printed : Appends before after text
@@ -58,7 +58,7 @@ pub record BooksFront (h more : List Entry) (text : List ℕ) (ledger : Ledger) 
 -- Whatever history the ledger stood for, these messages of a host lane were booked after it, and their answers were printed.
 abbrev pub BooksAll : Module → ℕ → ℕ → List (List ℕ) → Ledger → Ledger → (List ℕ → Type 0) → (List ℕ → Type 0) → Type 0
 BooksAll m lane moment messages old new before after =
-    (h : List Entry) → StandsFor old h → Books h (entries_of m moment h messages) (answer_lines m lane moment h messages) new before after
+    (h : List Entry) → StandsFor old h → IsBooked h (entries_of m moment h messages) (answer_lines m lane moment h messages) new before after
 
 -- Whatever history the ledger stood for, of these messages of a host lane some were booked after it, from the front,
 -- and a part from the front of their answers was printed.

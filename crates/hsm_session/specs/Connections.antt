@@ -13,8 +13,8 @@ use Rattle.hsm_io.specs.Gates.{GateCall, gate_calls}
 use Rattle.hsm_io.specs.Moments.{tick, after_calls}
 use Rattle.hsm_io.specs.Outside.{Rose}
 use Rattle.hsm_rows.specs.declared.settings.Module.{Module}
-use Rattle.hsm_session.specs.declared.plans.Kind.{Kind}
-use Rattle.hsm_session.specs.declared.plans.Kind.TheVariants.{Host}
+use Rattle.hsm_auth.specs.declared.activity.Place.{Place}
+use Rattle.hsm_auth.specs.declared.activity.Place.TheVariants.{Host}
 use Rattle.hsm_session.specs.declared.serving.ConnEnd.{ConnEnd}
 use Rattle.hsm_session.specs.declared.serving.ConnEnd.TheVariants.{Clean, Cut, Short, ReadFault, WriteFault}
 use Rattle.hsm_session.specs.declared.serving.Report.{Report}
@@ -44,17 +44,17 @@ framed_answers m side (message ∷ messages) (placed ∷ entries) =
     frame (message_answer m side message placed.1.granted) ++ framed_answers m side messages entries
 
 -- whether an ask is one for an authorisation
-abbrev pub is_authorise : Ask → Bool
-is_authorise (Use needs words) = false
-is_authorise (Authorise activity minutes) = true
-is_authorise (Cancel activity) = false
-is_authorise CancelAll = false
-is_authorise Look = false
-is_authorise Recent = false
+abbrev pub asks_authorisation : Ask → Bool
+asks_authorisation (Use needs words) = false
+asks_authorisation (Authorise activity minutes) = true
+asks_authorisation (Cancel activity) = false
+asks_authorisation CancelAll = false
+asks_authorisation Look = false
+asks_authorisation Recent = false
 
 -- none of the entries asks for an authorisation
 abbrev pub AuthoriseNothing : List (ℕ × Entry) → Type 0
-AuthoriseNothing entries = (i : ℕ) (placed : ℕ × Entry) → slice_get entries i ≡ Some placed → is_authorise placed.1.ask ≡ false
+AuthoriseNothing entries = (i : ℕ) (placed : ℕ × Entry) → slice_get entries i ≡ Some placed → asks_authorisation placed.1.ask ≡ false
 
 -- each of the entries has the moment that the clock was to give at its call
 abbrev pub HaveMoments : List ℕ → List (ℕ × Entry) → Type 0
@@ -85,12 +85,12 @@ Hears least heard messages ReadFault = Frames least heard messages Whole ⊎ Fra
 Hears least heard messages WriteFault = (later : List (List ℕ)) × (end : StreamEnd) × Frames least heard (messages ++ later) end
 
 -- All of the answers were written, and where a write failed a part from their front.
-abbrev pub Says : List ℕ → List ℕ → ConnEnd → Type 0
-Says said answers Clean = said ≡ answers
-Says said answers Cut = said ≡ answers
-Says said answers (Short n) = said ≡ answers
-Says said answers ReadFault = said ≡ answers
-Says said answers WriteFault = (rest : List ℕ) × (answers ≡ said ++ rest)
+abbrev pub WritesAnswers : List ℕ → List ℕ → ConnEnd → Type 0
+WritesAnswers said answers Clean = said ≡ answers
+WritesAnswers said answers Cut = said ≡ answers
+WritesAnswers said answers (Short n) = said ≡ answers
+WritesAnswers said answers ReadFault = said ≡ answers
+WritesAnswers said answers WriteFault = (rest : List ℕ) × (answers ≡ said ++ rest)
 
 -- a connection that was read to its end has nothing left to read
 abbrev pub Leaves : List ℕ → ConnEnd → Type 0
@@ -102,10 +102,10 @@ Leaves left WriteFault = Unit {0}
 
 -- What passed over a connection, of which nothing was read or written before: the messages of the bytes read, with their
 -- answers at these entries.
-pub record Talks (m : Module) (kind : Kind) (before after : Traffic) (messages : List (List ℕ)) (entries : List (ℕ × Entry)) (end : ConnEnd) : Type 0 where
+pub record Talks (m : Module) (kind : Place) (before after : Traffic) (messages : List (List ℕ)) (entries : List (ℕ × Entry)) (end : ConnEnd) : Type 0 where
   pub bytes : before.left ≡ after.was_read ++ after.left
   pub hears : Hears (least_for m kind) after.was_read messages end
-  pub says : Says after.written (framed_answers m (side_of kind) messages entries) end
+  pub says : WritesAnswers after.written (framed_answers m (side_of kind) messages entries) end
   pub leaves : Leaves after.left end
 
 -- the place of the first of the entries
@@ -127,7 +127,7 @@ pub record Reports (report : Report) (entries : List (ℕ × Entry)) : Type 0 wh
 -- What serving a connection of the lane of this number did. The pass made one entry for each message, in their order, at the
 -- clock's moments, and the gate was called around each; where the link tells what passed over it, these are the messages of
 -- the bytes read, and what was written are their answers at these entries. A host's messages authorise nothing.
-pub record Serves (m : Module) (kind : Kind) (lane : ℕ) (before after : Scene) (report : Report) : Type 0 where
+pub record Serves (m : Module) (kind : Place) (lane : ℕ) (before after : Scene) (report : Report) : Type 0 where
   pub messages : List (List ℕ)
   pub entries : List (ℕ × Entry)
   pub made : Makes before.pass after.pass entries

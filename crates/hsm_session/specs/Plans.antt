@@ -14,8 +14,8 @@ use Rattle.hsm_pincmd.specs.Plans as pin
 use Rattle.hsm_datacmd.specs.Commands.{IsDataRow}
 use Rattle.hsm_datacmd.specs.Plans as held
 use Rattle.hsm_console.specs.Plans as officers
-use Rattle.hsm_session.specs.declared.plans.Kind.{Kind}
-use Rattle.hsm_session.specs.declared.plans.Kind.TheVariants.{Host, Console}
+use Rattle.hsm_auth.specs.declared.activity.Place.{Place}
+use Rattle.hsm_auth.specs.declared.activity.Place.TheVariants.{Host, Console}
 use Rattle.hsm_session.specs.declared.families.Family.{Family}
 use Rattle.hsm_session.specs.declared.families.Family.TheVariants as family
 use Rattle.hsm_session.specs.declared.plans.Planned.{Planned}
@@ -23,7 +23,7 @@ use Rattle.hsm_session.specs.declared.plans.Planned.TheVariants as planned
 use Rattle.hsm_session.specs.declared.plans.Plan.{Plan}
 
 -- the side of the command table that answers
-abbrev pub side_of : Kind → Side
+abbrev pub side_of : Place → Side
 side_of Host = host
 side_of Console = console
 
@@ -32,7 +32,7 @@ abbrev pub least_length : Module → ℕ
 least_length m = m.header + 2
 
 -- the least length of a message: the console's have one byte
-abbrev pub least_for : Module → Kind → ℕ
+abbrev pub least_for : Module → Place → ℕ
 least_for m Host = least_length m
 least_for m Console = 1
 
@@ -63,7 +63,7 @@ abbrev pub plan_message : Plan → List ℕ
 plan_message plan = plan.message.now
 
 -- where the message of a plan comes from
-abbrev pub plan_kind : Plan → Kind
+abbrev pub plan_kind : Plan → Place
 plan_kind plan = plan.kind
 
 -- the ask of a command: nothing for one that is in no row
@@ -103,7 +103,7 @@ IsOwnPlan m (planned.Data plan) = held.IsPlanOf m plan
 IsOwnPlan m (planned.Console plan) = officers.IsPlanOf m plan
 
 -- the plan of a message: of the row of its command, if there is one, and of what follows the command
-pub record IsPlanned (m : Module) (side : Side) (message : List ℕ) (planned : Planned) : Type 0 where
+pub record IsPlanOfMessage (m : Module) (side : Side) (message : List ℕ) (planned : Planned) : Type 0 where
   pub row : planned_row planned ≡ enabled_row m side (command_of m side message)
   pub text : (row : RowShape) → planned_row planned ≡ Some row → planned_text planned ≡ text_after m side message
   pub own : IsOwnPlan m planned
@@ -112,4 +112,4 @@ pub record IsPlanned (m : Module) (side : Side) (message : List ℕ) (planned : 
 pub record IsPlanOf (m : Module) (plan : Plan) : Type 0 where
   pub least : least_for m (plan_kind plan) ≤ length (plan_message plan)
   pub most : length (plan_message plan) ≤ 65535
-  pub planned : IsPlanned m (side_of (plan_kind plan)) (plan_message plan) plan.planned
+  pub planned : IsPlanOfMessage m (side_of (plan_kind plan)) (plan_message plan) plan.planned

@@ -70,25 +70,25 @@ piece_text m lane moment h (Short n) messages after = closed_line lane
 -- The entries that a line books after the history h and the lines before it, and what is printed for it.
 -- A piece answers the messages of all bytes that its lane got up to it that were not there before it, each at its own entry,
 -- in their order. A console text is one message.
-abbrev pub Tells : Module → List Entry → List Said → Said → List Entry → List ℕ → Type 0
-Tells m h earlier Nothing more text = (more ≡ []) × (text ≡ [])
-Tells m h earlier (Moment moment) more text = (more ≡ []) × (text ≡ [])
-Tells m h earlier (Piece lane bytes) more text =
+abbrev pub IsRunOfLine : Module → List Entry → List Said → Said → List Entry → List ℕ → Type 0
+IsRunOfLine m h earlier Nothing more text = (more ≡ []) × (text ≡ [])
+IsRunOfLine m h earlier (Moment moment) more text = (more ≡ []) × (text ≡ [])
+IsRunOfLine m h earlier (Piece lane bytes) more text =
     (messages : List (List ℕ)) × (before : StreamEnd) × (new : List (List ℕ)) × (after : StreamEnd)
     × Frames (least_length m) (got lane earlier) messages before
     × Frames (least_length m) (got lane (earlier ++ Piece lane bytes ∷ [])) (messages ++ new) after
     × (more ≡ entries_of m (moment_at earlier) h new)
     × (text ≡ piece_text m lane (moment_at earlier) h before new after)
-Tells m h earlier (Console message) more text =
+IsRunOfLine m h earlier (Console message) more text =
     (more ≡ entry_of m console (moment_at earlier) h message ∷ [])
     × (text ≡ console_line (reply_of m console (moment_at earlier) h message))
 
 -- What is printed for the later lines, after the history h and the lines before them, and the history then.
-abbrev pub Prints : Module → List Entry → List Said → List Said → List Entry → List ℕ → Type 0
-Prints m h earlier [] last text = (last ≡ h) × (text ≡ [])
-Prints m h earlier (line ∷ later) last text =
+abbrev pub IsRunOfLines : Module → List Entry → List Said → List Said → List Entry → List ℕ → Type 0
+IsRunOfLines m h earlier [] last text = (last ≡ h) × (text ≡ [])
+IsRunOfLines m h earlier (line ∷ later) last text =
     (more : List Entry) × (first : List ℕ) × (rest : List ℕ)
-    × Tells m h earlier line more first × (text ≡ first ++ rest) × Prints m (h ++ more) (earlier ++ line ∷ []) later last rest
+    × IsRunOfLine m h earlier line more first × (text ≡ first ++ rest) × IsRunOfLines m (h ++ more) (earlier ++ line ∷ []) later last rest
 
 -- How the stream of each host lane ends, by the bytes that it got. Lanes are numbered from 1.
 pub record AreEnds (m : Module) (lines : List Said) (ends : List StreamEnd) : Type 0 where
@@ -119,10 +119,10 @@ end_lines lane [] = []
 end_lines lane (end ∷ ends) = end_line lane end ++ end_lines (lane + 1) ends
 
 -- The history after a run of these lines that begins with the history h, its output, and its counts.
-pub record Told (m : Module) (h : List Entry) (lines : List Said) (last : List Entry) (text : List ℕ) (over : ScriptEnd) : Type 0 where
+pub record IsRunOf (m : Module) (h : List Entry) (lines : List Said) (last : List Entry) (text : List ℕ) (over : ScriptEnd) : Type 0 where
   pub answers : List ℕ
   pub ends : List StreamEnd
-  pub printed : Prints m h [] lines last answers
+  pub printed : IsRunOfLines m h [] lines last answers
   pub streams : AreEnds m lines ends
   pub whole : text ≡ answers ++ end_lines 1 ends ++ last_line over.entries
   pub booked : List Entry
@@ -132,21 +132,21 @@ pub record Told (m : Module) (h : List Entry) (lines : List Said) (last : List E
   pub short : over.short ≡ count_by is_short ends
 
 -- What a run came to after the history h: one history that begins with it, which is legal where h is, and the text that was written.
-pub record Runs (m : Module) (h : List Entry) (lines : List Said) (over : ScriptEnd) (ledger : Ledger) (before after : List ℕ → Type 0) : Type 0 where
+pub record IsFinishedRun (m : Module) (h : List Entry) (lines : List Said) (over : ScriptEnd) (ledger : Ledger) (before after : List ℕ → Type 0) : Type 0 where
   pub last : List Entry
   pub text : List ℕ
-  pub told : Told m h lines last text over
+  pub told : IsRunOf m h lines last text over
   pub stands : StandsFor ledger last
   pub legal : IsLegal h → IsLegal last
   pub printed : Appends before after text
 
 -- What a run that a failed write ended came to after the history h: of the history that the run would have the entries up to
 -- some place were booked, and of its output a part from the front was written.
-pub record Stops (m : Module) (h : List Entry) (lines : List Said) (ledger : Ledger) (before after : List ℕ → Type 0) : Type 0 where
+pub record IsStoppedRun (m : Module) (h : List Entry) (lines : List Said) (ledger : Ledger) (before after : List ℕ → Type 0) : Type 0 where
   pub last : List Entry
   pub text : List ℕ
   pub over : ScriptEnd
-  pub told : Told m h lines last text over
+  pub told : IsRunOf m h lines last text over
   pub booked : List Entry
   pub missing : List Entry
   pub begins : last ≡ (h ++ booked) ++ missing
@@ -157,11 +157,11 @@ pub record Stops (m : Module) (h : List Entry) (lines : List Said) (ledger : Led
 -- Each answer of a run, where it comes, what was booked and what was written then. Want of memory is free.
 abbrev pub RunAnswers : Module → Result (List Said) ℕ → Ledger → Ledger → (List ℕ → Type 0) → (List ℕ → Type 0) → Result ScriptEnd ScriptFault → Type 0
 RunAnswers m read old new before after (Ok over) =
-    (lines : List Said) × (read ≡ Ok lines) × ((h : List Entry) → StandsFor old h → Runs m h lines over new before after)
+    (lines : List Said) × (read ≡ Ok lines) × ((h : List Entry) → StandsFor old h → IsFinishedRun m h lines over new before after)
 RunAnswers m read old new before after (Err (Line n)) = (read ≡ Err n) × (new ≡ old) × Stays before after
 RunAnswers m read old new before after (Err Memory) = (new ≡ old) × Stays before after
 RunAnswers m read old new before after (Err Out) =
-    (lines : List Said) × (read ≡ Ok lines) × ((h : List Entry) → StandsFor old h → Stops m h lines new before after)
+    (lines : List Said) × (read ≡ Ok lines) × ((h : List Entry) → StandsFor old h → IsStoppedRun m h lines new before after)
 
 -- `Out` comes only where the sink's count rose.
 abbrev pub OutRose : ℕ → ℕ → Result ScriptEnd ScriptFault → Type 0

@@ -6,8 +6,8 @@ use Rattle.hsm_desk.specs.Passes.{Makes}
 use Rattle.hsm_frame.specs.Frames.{IsMessage, frame}
 use Rattle.hsm_io.specs.Connections.{Traffic, Exchanges, IsSilent}
 use Rattle.hsm_rows.specs.declared.settings.Module.{Module}
-use Rattle.hsm_session.specs.declared.plans.Kind.{Kind}
-use Rattle.hsm_session.specs.declared.plans.Kind.TheVariants.{Host}
+use Rattle.hsm_auth.specs.declared.activity.Place.{Place}
+use Rattle.hsm_auth.specs.declared.activity.Place.TheVariants.{Host}
 use Rattle.hsm_session.specs.declared.serving.ConnEnd.{ConnEnd}
 use Rattle.hsm_session.specs.declared.serving.Count.{Count}
 use Rattle.hsm_session.specs.declared.serving.Report.{Report}
@@ -55,7 +55,7 @@ holding bytes out count = record { bytes = bytes; out = out; count = count }
 
 -- What serving did so far on the lane of this number: the messages among the bytes read were booked, and the bytes held
 -- follow them; their answers are what was written and what is gathered.
-pub record Going (m : Module) (kind : Kind) (lane : ℕ) (start now : Scene) (h : Holding) : Type 0 where
+pub record IsServing (m : Module) (kind : Place) (lane : ℕ) (start now : Scene) (h : Holding) : Type 0 where
   pub messages : List (List ℕ)
   pub entries : List (ℕ × Entry)
   pub made : Makes start.pass now.pass entries
@@ -74,15 +74,15 @@ abbrev pub report_of : Count → ConnEnd → Report
 report_of count ended = record { ended = ended; messages = count.messages; first = count.first; last = count.last }
 
 -- what serving did in all
-abbrev pub Over : Module → Kind → ℕ → Scene → Scene → Count → ConnEnd → Type 0
-Over m kind lane start now count ended = Serves m kind lane start now (report_of count ended)
+abbrev pub EndsServing : Module → Place → ℕ → Scene → Scene → Count → ConnEnd → Type 0
+EndsServing m kind lane start now count ended = Serves m kind lane start now (report_of count ended)
 
 -- What a part of the work did to a connection that nothing had ended: it goes on and waits for more bytes, or it ended.
-abbrev pub Steps : Module → Kind → ℕ → Scene → Scene → Holding → Holding → Option ConnEnd → Type 0
+abbrev pub Steps : Module → Place → ℕ → Scene → Scene → Holding → Holding → Option ConnEnd → Type 0
 Steps m kind lane old new before after None =
-    IsWaiting (least_for m kind) after.bytes × ((start : Scene) → Going m kind lane start old before → Going m kind lane start new after)
+    IsWaiting (least_for m kind) after.bytes × ((start : Scene) → IsServing m kind lane start old before → IsServing m kind lane start new after)
 Steps m kind lane old new before after (Some ended) =
-    (start : Scene) → IsSilent start.traffic → Going m kind lane start old before → Over m kind lane start new after.count ended
+    (start : Scene) → IsSilent start.traffic → IsServing m kind lane start old before → EndsServing m kind lane start new after.count ended
 
 -- Why a part of the work ended a connection.
 abbrev pub StepCause : ℕ → ℕ → Bool → Option ConnEnd → Type 0

@@ -9,7 +9,7 @@ ghost use Rattle.hsm_answers.specs.Clear.{ShowsClear};
 ghost use Rattle.hsm_answers.specs.Messages.{Side};
 ghost use Rattle.hsm_session.specs.declared.script.ScriptEnd.{ScriptEnd};
 ghost use Rattle.hsm_session.specs.Clear.{HasMessage, IsByOfficers, IsEntryOf, IsGranted};
-ghost use Rattle.hsm_session.specs.Runs.{Told};
+ghost use Rattle.hsm_session.specs.Runs.{IsRunOf};
 ghost use Rattle.hsm_session.specs.Scripts.{Said};
 
 use hsm_answers::{clear_where_granted, words_authorise};
@@ -21,12 +21,12 @@ use hsm_answers::{clear_where_granted, words_authorise};
 /// nothing.
 pub fn clear_in_runs()
     ensures messages { (m : Module) (h : List Entry) (lines : List Said) (last : List Entry) (text : List ℕ) (over : ScriptEnd)
-        → Told m h lines last text over → (i : ℕ) → length h ≤ i → i < length last → HasMessage m lines last i }
+        → IsRunOf m h lines last text over → (i : ℕ) → length h ≤ i → i < length last → HasMessage m lines last i }
     ensures officers { (m : Module) (h : List Entry) (lines : List Said) (last : List Entry) (text : List ℕ) (over : ScriptEnd)
-        → Told m h lines last text over → (i : ℕ) (e : Entry) (activity : Activity) (minutes : ℕ) → length h ≤ i
+        → IsRunOf m h lines last text over → (i : ℕ) (e : Entry) (activity : Activity) (minutes : ℕ) → length h ≤ i
         → slice_get last i ≡ Some e → e.ask ≡ Authorise activity minutes → IsByOfficers m lines last i activity minutes }
     ensures clear { (m : Module) (h : List Entry) (lines : List Said) (last : List Entry) (text : List ℕ) (over : ScriptEnd)
-        → Told m h lines last text over → (i : ℕ) (e : Entry) (side : Side) (moment : ℕ) (message : List ℕ)
+        → IsRunOf m h lines last text over → (i : ℕ) (e : Entry) (side : Side) (moment : ℕ) (message : List ℕ)
         → slice_get last i ≡ Some e → IsEntryOf m last i side moment message → (s : ShowsClear m side message e.granted)
         → IsGranted m lines (length h) last i e s.row s.read }
 {

@@ -9,14 +9,14 @@ ghost use Rattle.hsm_io.specs.Outside.{Rose};
 ghost use Rattle.hsm_io.specs.Texts.{Appends, AppendsFront};
 ghost use Rattle.hsm_session.specs.Plans.{least_for, least_length, side_of};
 ghost use Rattle.hsm_auth.specs.History.{IsKnown};
-ghost use Rattle.hsm_session.specs.Booking.{Books, BooksAll, BooksFront, BooksSome, IsAnswered, console_line, entry_of, lane_words, reply_line, reply_of};
+ghost use Rattle.hsm_session.specs.Booking.{IsBooked, BooksAll, BooksFront, BooksSome, IsAnswered, console_line, entry_of, lane_words, reply_line, reply_of};
 ghost use Rattle.hsm_session.specs.Runs.{closed_line, end_line, is_cut, is_short, last_line, short_line};
 ghost use Rattle.hsm_session.specs.Lanes.{Drains, FeedsPiece, StopsDraining, StopsPiece, lane_end};
 
-use crate::plans::{Kind, finish, prepare};
+use crate::plans::{finish, prepare};
 use crate::text::{append, append_hex};
 use arrayvec::ArrayVec;
-use hsm_auth::Ledger;
+use hsm_auth::{Ledger, Place};
 use hsm_frame::laws::has_one_reading;
 use hsm_frame::{Frames, Next, frame_into};
 use hsm_io::{OutFailed, Sink, write_all};
@@ -48,7 +48,7 @@ impl Buffers {
         &mut self,
         module: &Module,
         ledger: &mut Ledger,
-        kind: Kind,
+        kind: Place,
         moment: u64,
         message: &[u8],
     )
@@ -96,7 +96,7 @@ impl Buffers {
         ensures failed { OnErr result (Rose (S.faults out.old) (S.faults out.new)) }
         ensures kept { OnOk result (S.faults out.new ≡ S.faults out.old) }
     {
-        self.answer::<0>(module, ledger, Kind::Host, moment, message);
+        self.answer::<0>(module, ledger, Place::Host, moment, message);
         frame_into(self.reply.bytes(), &mut self.frame);
         self.begin_lane_line(number);
         append_hex(&mut self.line, &self.frame);
@@ -118,7 +118,7 @@ impl Buffers {
         requires least { 1 ≤ length text.now }
         requires most { length text.now ≤ 65535 }
         ensures booked { OnOk result ((h : List Entry) → StandsFor ledger.old h →
-            Books h (entry_of «module».now console moment h text.now ∷ []) (console_line (reply_of «module».now console moment h text.now))
+            IsBooked h (entry_of «module».now console moment h text.now ∷ []) (console_line (reply_of «module».now console moment h text.now))
             ledger.new (S.stands_for out.old) (S.stands_for out.new)) }
         ensures part { OnErr result ((h : List Entry) → StandsFor ledger.old h →
             BooksFront h (entry_of «module».now console moment h text.now ∷ []) (console_line (reply_of «module».now console moment h text.now))
@@ -126,7 +126,7 @@ impl Buffers {
         ensures failed { OnErr result (Rose (S.faults out.old) (S.faults out.new)) }
         ensures kept { OnOk result (S.faults out.new ≡ S.faults out.old) }
     {
-        self.answer::<0>(module, ledger, Kind::Console, moment, text);
+        self.answer::<0>(module, ledger, Place::Console, moment, text);
         self.line.clear();
         append(&mut self.line, b"C ");
         append(&mut self.line, self.reply.bytes());
@@ -199,7 +199,7 @@ struct Drained {
 
 /// A host lane: its number, and what its stream holds.
 #[derive(Drop)]
-pub struct Lane {
+pub struct ScriptLane {
     number: u32,
     frames: Frames,
     // The length of the frame that closed the lane, where one did.
@@ -248,12 +248,12 @@ fn answer_held<S: Sink>(
     }
 }
 
-impl Lane {
+impl ScriptLane {
     /// The lane of this number, of which nothing came yet.
-    pub fn new(number: u32, frames: Frames) -> Lane
+    pub fn new(number: u32, frames: Frames) -> ScriptLane
         ensures { result ≡ record { number = number; frames = frames; short = None } }
     {
-        Lane {
+        ScriptLane {
             number,
             frames,
             short: None,

@@ -6,7 +6,7 @@ ghost use Rattle.hsm_auth.specs.History.{IsLegal};
 ghost use Rattle.hsm_rows.specs.declared.settings.Module.{Module};
 ghost use Rattle.hsm_session.specs.declared.script.ScriptEnd.{ScriptEnd};
 ghost use Rattle.hsm_session.specs.Cuts.{IsOpen};
-ghost use Rattle.hsm_session.specs.Runs.{Told};
+ghost use Rattle.hsm_session.specs.Runs.{IsRunOf};
 ghost use Rattle.hsm_session.specs.Scripts.{Piece, Said, script_of};
 
 use hsm_answers::words_authorise;
@@ -17,9 +17,9 @@ use hsm_rows::{console_texts_stand, texts_stand};
 /// same and prints the same. It does nothing.
 pub fn one_run()
     ensures some { (m : Module) (h : List Entry) (script : List ℕ) (lines : List Said) → script_of m.hosts script ≡ Ok lines
-        → (last : List Entry) × (text : List ℕ) × (over : ScriptEnd) × Told m h lines last text over }
+        → (last : List Entry) × (text : List ℕ) × (over : ScriptEnd) × IsRunOf m h lines last text over }
     ensures only { (m : Module) (h : List Entry) (lines : List Said) (last other : List Entry) (text output : List ℕ) (over end : ScriptEnd)
-        → Told m h lines last text over → Told m h lines other output end → (last ≡ other) × (text ≡ output) × (over ≡ end) }
+        → IsRunOf m h lines last text over → IsRunOf m h lines other output end → (last ≡ other) × (text ≡ output) × (over ≡ end) }
 {
     has_one_reading();
 }
@@ -30,14 +30,14 @@ pub fn one_run()
 pub fn cut_pieces_join()
     ensures books { (m : Module) (h : List Entry) (earlier later : List Said) (lane : ℕ) (first second : List ℕ)
         (last other : List Entry) (text output : List ℕ) (over end : ScriptEnd)
-        → Told m h (earlier ++ Piece lane (first ++ second) ∷ later) last text over
-        → Told m h (earlier ++ Piece lane first ∷ Piece lane second ∷ later) other output end
+        → IsRunOf m h (earlier ++ Piece lane (first ++ second) ∷ later) last text over
+        → IsRunOf m h (earlier ++ Piece lane first ∷ Piece lane second ∷ later) other output end
         → (last ≡ other) × (over ≡ end) }
     ensures prints { (m : Module) (h : List Entry) (earlier later : List Said) (lane : ℕ) (first second : List ℕ)
         (last other : List Entry) (text output : List ℕ) (over end : ScriptEnd)
         → IsOpen m (earlier ++ Piece lane first ∷ []) lane
-        → Told m h (earlier ++ Piece lane (first ++ second) ∷ later) last text over
-        → Told m h (earlier ++ Piece lane first ∷ Piece lane second ∷ later) other output end
+        → IsRunOf m h (earlier ++ Piece lane (first ++ second) ∷ later) last text over
+        → IsRunOf m h (earlier ++ Piece lane first ∷ Piece lane second ∷ later) other output end
         → text ≡ output }
 {
     has_one_reading();
@@ -47,7 +47,7 @@ pub fn cut_pieces_join()
 /// ledger's limits. It does nothing.
 pub fn legal_runs()
     ensures { (m : Module) (h : List Entry) (script : List ℕ) (lines : List Said) (last : List Entry) (text : List ℕ) (over : ScriptEnd)
-        → script_of m.hosts script ≡ Ok lines → Told m h lines last text over → IsLegal h → IsLegal last }
+        → script_of m.hosts script ≡ Ok lines → IsRunOf m h lines last text over → IsLegal h → IsLegal last }
 {
     words_authorise();
     texts_stand();

@@ -7,26 +7,17 @@ ghost use Rattle.hsm_auth.specs.History.{CanAsk, Fits};
 ghost use Rattle.hsm_rows.specs.Table.{IsConsoleRow, IsHostRow, shape_of, shown_shape};
 ghost use Rattle.hsm_answers.specs.Asks.{ask_of};
 ghost use Rattle.hsm_answers.specs.Messages.{command_of, console, enabled_row, header_of, host, message_answer, message_ask, text_after, unknown_answer};
-ghost use Rattle.hsm_session.specs.Plans.{IsOwnPlan, IsPlanOf, IsPlanned, least_for, least_length, plan_ask, plan_kind, plan_message, planned_ask, planned_row, planned_text, side_of};
+ghost use Rattle.hsm_session.specs.Plans.{IsOwnPlan, IsPlanOf, IsPlanOfMessage, least_for, least_length, plan_ask, plan_kind, plan_message, planned_ask, planned_row, planned_text, side_of};
 
 use crate::families::{Family, family_of};
 use hsm_answers::empty_ask;
-use hsm_auth::{Ask, Granted};
+use hsm_auth::{Ask, Granted, Place};
 use hsm_console::ConsolePlan;
 use hsm_datacmd::DataPlan;
 use hsm_keycmd::KeyPlan;
 use hsm_pincmd::PinPlan;
 use hsm_rows::{Module, Row, console_row, row_of, same_text, token_run};
 use hsm_text::Reply;
-
-/// Where a message comes from.
-#[derive(Clone, Copy, Debug, PartialEq, Eq)]
-pub enum Kind {
-    /// A host's connection.
-    Host,
-    /// The console.
-    Console,
-}
 
 // The command of a message.
 #[derive(Clone, Copy)]
@@ -42,7 +33,7 @@ enum Planned<'m> {
 /// What a message comes to before its entry: its ask, and what is left to answer.
 #[derive(Clone, Copy)]
 pub struct Plan<'m> {
-    kind: Kind,
+    kind: Place,
     message: &'m [u8],
     planned: Planned<'m>,
 }
@@ -114,7 +105,7 @@ fn plan_row<'m>(module: &Module, row: &'static Row, text: &'m [u8]) -> Planned<'
 // The plan of a host's message.
 fn plan_host<'m>(module: &Module, message: &'m [u8]) -> Planned<'m>
     requires { least_length «module».now ≤ length message.now }
-    ensures plan { IsPlanned «module».now host message.now result }
+    ensures plan { IsPlanOfMessage «module».now host message.now result }
     ensures ask { planned_ask result ≡ message_ask «module».now host message.now }
     ensures may { CanAsk (planned_ask result) }
 {
@@ -128,7 +119,7 @@ fn plan_host<'m>(module: &Module, message: &'m [u8]) -> Planned<'m>
 
 // The plan of a console's message.
 fn plan_console<'m>(module: &Module, message: &'m [u8]) -> Planned<'m>
-    ensures plan { IsPlanned «module».now console message.now result }
+    ensures plan { IsPlanOfMessage «module».now console message.now result }
     ensures ask { planned_ask result ≡ message_ask «module».now console message.now }
     ensures may { CanAsk (planned_ask result) }
 {
@@ -140,7 +131,7 @@ fn plan_console<'m>(module: &Module, message: &'m [u8]) -> Planned<'m>
 }
 
 /// The plan of a message.
-pub fn prepare<'m>(module: &Module, kind: Kind, message: &'m [u8]) -> Plan<'m>
+pub fn prepare<'m>(module: &Module, kind: Place, message: &'m [u8]) -> Plan<'m>
     requires least { least_for «module».now kind ≤ length message.now }
     requires most { length message.now ≤ 65535 }
     ensures kind { plan_kind result ≡ kind }
@@ -150,12 +141,12 @@ pub fn prepare<'m>(module: &Module, kind: Kind, message: &'m [u8]) -> Plan<'m>
     ensures plan { IsPlanOf «module».now result }
 {
     match kind {
-        Kind::Host => Plan {
+        Place::Host => Plan {
             kind,
             message,
             planned: plan_host(module, message),
         },
-        Kind::Console => Plan {
+        Place::Console => Plan {
             kind,
             message,
             planned: plan_console(module, message),
@@ -164,34 +155,34 @@ pub fn prepare<'m>(module: &Module, kind: Kind, message: &'m [u8]) -> Plan<'m>
 }
 
 // The header of a message, which only a host's has.
-fn header_of<'m>(module: &Module, kind: Kind, message: &'m [u8]) -> &'m [u8]
+fn header_of<'m>(module: &Module, kind: Place, message: &'m [u8]) -> &'m [u8]
     requires { least_for «module».now kind ≤ length message.now }
     ensures header { result.now ≡ header_of «module».now (side_of kind) message.now }
     ensures short { length result.now ≤ 255 }
 {
     match kind {
-        Kind::Host => {
+        Place::Host => {
             let (header, _) = message.split_at(usize::from(module.header));
             header
         }
-        Kind::Console => b"",
+        Place::Console => b"",
     }
 }
 
 // Appends the answer to a command that is in no row.
-fn put_unknown(module: &Module, kind: Kind, message: &[u8], reply: &mut Reply)
+fn put_unknown(module: &Module, kind: Place, message: &[u8], reply: &mut Reply)
     requires least { least_for «module».now kind ≤ length message.now }
     requires room { length reply.old ≤ 255 }
     ensures { reply.new ≡ reply.old ++ unknown_answer (side_of kind) (command_of «module».now (side_of kind) message.now) }
 {
     match kind {
-        Kind::Host => {
+        Place::Host => {
             let (_, command) = message.split_at(usize::from(module.header));
             let (code, _) = command.split_at(2);
             reply.put(&[code[0], code[1].wrapping_add(1)]);
             reply.put(b"68");
         }
-        Kind::Console => reply.put(b"NO 68"),
+        Place::Console => reply.put(b"NO 68"),
     }
 }
 

@@ -6,10 +6,10 @@ ghost use Rattle.hsm_io.specs.Texts.{AppendsFront};
 ghost use Rattle.hsm_auth.specs.History.{IsKnown};
 ghost use Rattle.hsm_session.specs.Reading.{said_of};
 ghost use Rattle.hsm_session.specs.Scripts.{Said, Piece};
-ghost use Rattle.hsm_session.specs.declared.lane.Lane.{Lane};
+ghost use Rattle.hsm_session.specs.declared.lane.ScriptLane.{ScriptLane};
 ghost use Rattle.hsm_session.specs.Lanes.{Ends, IsAt, IsLine, StopsLine, TakesLine, run_end, all_held, weight};
 
-use crate::lane::{Buffers, Lane};
+use crate::lane::{Buffers, ScriptLane};
 use crate::lines::Line;
 use crate::script::ScriptEnd;
 use hsm_auth::Ledger;
@@ -22,7 +22,7 @@ use std::alloc::{AllocError, Global};
 #[derive(Drop)]
 pub struct Run {
     // The host lanes by their numbers, of which the first is 1.
-    lanes: Vec<Lane>,
+    lanes: Vec<ScriptLane>,
     // The moment that was set last.
     moment: u64,
     entries: u64,
@@ -38,7 +38,7 @@ impl Run {
         let mut lanes = Vec::with_capacity(alloc, usize::from(module.hosts))?;
         'lanes: for number in 0..u32::from(module.hosts) {
             let frames = Frames::open(alloc, u16::from(module.header) + 2)?;
-            match lanes.push(Lane::new(number + 1, frames)) {
+            match lanes.push(ScriptLane::new(number + 1, frames)) {
                 Ok(()) => {}
                 Err(_) => return Err(AllocError),
             }
@@ -116,7 +116,7 @@ impl Run {
 
     /// Prints how the lanes end.
     pub fn end<S: Sink>(&self, buffers: &mut Buffers, out: &mut S) -> Result<ScriptEnd, OutFailed>
-        requires numbers { (i : ℕ) (lane : Lane) → slice_get self.now.lanes.items i ≡ Some lane → lane.number ≡ i + 1 }
+        requires numbers { (i : ℕ) (lane : ScriptLane) → slice_get self.now.lanes.items i ≡ Some lane → lane.number ≡ i + 1 }
         requires few { vec_len self.now.lanes < 2 ^ 32 }
         ensures ends { IfOk result (λ over. Ends self.now over (S.stands_for out.old) (S.stands_for out.new)) }
         ensures front { OnErr result (AppendsFront (S.stands_for out.old) (S.stands_for out.new) (run_end self.now)) }

@@ -6,11 +6,12 @@ ghost use Rattle.hsm_io.specs.Connections.{IsSilent, Traffic};
 ghost use Rattle.hsm_session.specs.Connections.{EndCause, Scene, Serves, scene};
 ghost use Rattle.hsm_session.specs.Lanes.{AreBytes, IsWaiting};
 ghost use Rattle.hsm_session.specs.Plans.{least_for};
-ghost use Rattle.hsm_session.specs.Serving.{Going, StepCause, Steps, holding, no_entry, one_more};
+ghost use Rattle.hsm_session.specs.Serving.{IsServing, StepCause, Steps, holding, no_entry, one_more};
 
-use crate::plans::{Kind, finish, prepare};
+use crate::plans::{finish, prepare};
 use crate::replies::{gather, send};
 use arrayvec::ArrayVec;
+use hsm_auth::Place;
 use hsm_answers::words_authorise;
 use hsm_desk::{Desk, Pass};
 use hsm_frame::laws::has_one_reading;
@@ -112,7 +113,7 @@ fn book_message<R: Wait, C: Clock, G: Gate, const N: usize>(
     rt: &R,
     module: &Module,
     desk: &Desk,
-    kind: Kind,
+    kind: Place,
     pass: &mut Pass,
     clock: &mut C,
     gate: &mut G,
@@ -128,9 +129,9 @@ fn book_message<R: Wait, C: Clock, G: Gate, const N: usize>(
     ensures desk { pass.new.desk ≡ pass.old.desk }
     ensures counted { count.new.messages ≤ length pass.new.seen }
     ensures booked { (start : Scene) (traffic : Option Traffic) (rest out : List ℕ)
-        → Going «module».now kind lane start (scene pass.old (C.last clock.old) (C.to_come clock.old) (G.calls gate.old) traffic)
+        → IsServing «module».now kind lane start (scene pass.old (C.last clock.old) (C.to_come clock.old) (G.calls gate.old) traffic)
         (holding (frame message.now ++ rest) out count.old)
-        → Going «module».now kind lane start (scene pass.new (C.last clock.new) (C.to_come clock.new) (G.calls gate.new) traffic)
+        → IsServing «module».now kind lane start (scene pass.new (C.last clock.new) (C.to_come clock.new) (G.calls gate.new) traffic)
         (holding rest (out ++ frame reply.new) count.new) }
 {
     words_authorise();
@@ -143,17 +144,17 @@ fn book_message<R: Wait, C: Clock, G: Gate, const N: usize>(
 }
 
 /// The least length of a message from there: a host's has a header and a command code, the console's has one byte.
-pub fn least_message(module: &Module, kind: Kind) -> u16
+pub fn least_message(module: &Module, kind: Place) -> u16
     ensures { result ≡ least_for «module».now kind }
 {
     match kind {
-        Kind::Host => u16::from(module.header) + 2,
-        Kind::Console => 1,
+        Place::Host => u16::from(module.header) + 2,
+        Place::Console => 1,
     }
 }
 
 // The end at a frame of this length, which is below the least.
-fn end_short(module: &Module, kind: Kind, length: u64) -> ConnEnd
+fn end_short(module: &Module, kind: Place, length: u64) -> ConnEnd
     requires { length < least_for «module».now kind }
     ensures { result ≡ ConnEnd.Short length }
 {
@@ -167,7 +168,7 @@ fn answer_messages<R: Wait, K: Link, C: Clock, G: Gate>(
     rt: &R,
     module: &Module,
     desk: &Desk,
-    kind: Kind,
+    kind: Place,
     tools: &mut Tools<C, G>,
     link: &mut K,
     count: &mut Count,
@@ -232,7 +233,7 @@ fn serve_piece<R: Wait, K: Link, C: Clock, G: Gate>(
     rt: &R,
     module: &Module,
     desk: &Desk,
-    kind: Kind,
+    kind: Place,
     tools: &mut Tools<C, G>,
     link: &mut K,
     count: &mut Count,
@@ -282,7 +283,7 @@ pub fn serve_link<R: Wait, K: Link, C: Clock, G: Gate>(
     rt: &R,
     module: &Module,
     desk: &Desk,
-    kind: Kind,
+    kind: Place,
     tools: &mut Tools<C, G>,
     link: &mut K,
 ) -> Report

@@ -5,13 +5,13 @@ ghost use Rattle.hsm_auth.specs.History.{Fits};
 ghost use Rattle.hsm_answers.specs.Messages.{message_answer, message_ask};
 ghost use Rattle.hsm_session.specs.Plans.{least_for, side_of};
 
-use crate::plans::{Kind, finish, prepare};
-use hsm_auth::Granted;
+use crate::plans::{finish, prepare};
+use hsm_auth::{Granted, Place};
 use hsm_rows::Module;
 use hsm_text::Reply;
 
 /// Replaces the reply by the whole answer of a message at an entry that gives this answer to its ask.
-pub fn answer(module: &Module, kind: Kind, message: &[u8], granted: &Granted, reply: &mut Reply)
+pub fn answer(module: &Module, kind: Place, message: &[u8], granted: &Granted, reply: &mut Reply)
     requires least { least_for «module».now kind ≤ length message.now }
     requires most { length message.now ≤ 65535 }
     requires fits { Fits (message_ask «module».now (side_of kind) message.now) granted.now }
@@ -23,7 +23,7 @@ pub fn answer(module: &Module, kind: Kind, message: &[u8], granted: &Granted, re
 // A constant parameter that nothing reads: the toolchain has no plan for a value that holds a type with a lifetime in a function without parameters.
 fn answer_by<const N: usize>(
     module: &Module,
-    kind: Kind,
+    kind: Place,
     message: &[u8],
     granted: &Granted,
     reply: &mut Reply,

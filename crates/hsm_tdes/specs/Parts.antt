@@ -1,5 +1,6 @@
 -- A key's parts as a list.
 use Rattle.std.specs.Prelude.{◌≡◌, ℕ, List, [], ◌∷◌, refl}
+use Rattle.std.proofs.Common.{ap}
 use Rattle.hsm_tdes.specs.declared.Parts.{Parts}
 use Rattle.hsm_tdes.specs.declared.Parts.TheVariants.{One, Two, Three}
 use Rattle.hsm_tdes.specs.declared.Key.TheInside.{Inside}
@@ -24,4 +25,4 @@ from_parts-parts (Three a b c) = refl
 
 -- the fields are told by the parts
 pub from_parts-parts_of : (k : Inside) → record { parts = from_parts (parts_of k.parts) } ≡ k
-from_parts-parts_of k = λ i. record { parts = from_parts-parts k.parts i }
+from_parts-parts_of k = ap (λ (parts : Parts). record { parts = parts }) (from_parts-parts k.parts)

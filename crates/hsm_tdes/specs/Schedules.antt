@@ -39,5 +39,4 @@ from_list-schedule_list (Three a b c) = refl
 -- the fields are told by the key
 pub fields-key : (p : Inside) → AreSchedules p.schedules p.key → record { key = p.key; schedules = schedules_of p.key } ≡ p
 fields-key p made =
-    let same : schedules_of p.key ≡ p.schedules = ap from_list (sym made) ∙ from_list-schedule_list p.schedules in
-    λ i. record { key = p.key; schedules = same i }
+    ap (λ (schedules : Schedules). record { key = p.key; schedules = schedules }) (ap from_list (sym made) ∙ from_list-schedule_list p.schedules)

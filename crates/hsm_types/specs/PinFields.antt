@@ -1,6 +1,6 @@
 -- A PIN's fields from its digits.
-use Rattle.std.specs.Prelude.{◌≡◌, ◌-◌, ◌++◌, length, take, replicate}
-use Rattle.std.proofs.Common.{ap, sym, ◌∙◌, arith, take-append-drop, length-take-le}
+use Rattle.std.specs.Prelude.{◌≡◌, ℕ, List, ◌-◌, ◌++◌, length, take, replicate}
+use Rattle.std.proofs.Common.{ap, ap₂, sym, ◌∙◌, arith, take-append-drop, length-take-le}
 use Rattle.hsm_types.specs.Pins.{KeepsPin}
 use Rattle.hsm_types.specs.declared.pins.Pin.TheInside.{Inside}
 
@@ -13,4 +13,4 @@ fields-digits p kept =
     ap (λ n. take p.count p.digits ++ replicate (12 - n) 0) held
     ∙ ap (λ rest. take p.count p.digits ++ rest) (sym kept.others)
     ∙ take-append-drop p.count p.digits in
-    λ i. record { digits = same i; count = held i }
+    ap₂ (λ (digits : List ℕ) (count : ℕ). record { digits = digits; count = count }) same held

@@ -3,7 +3,7 @@ use Rattle.hsm_frame.specs.Frames.{IsShort}
 use Rattle.hsm_session.specs.declared.serving.ConnEnd.{ConnEnd}
 use Rattle.hsm_session.specs.Connections.{scene}
 use Rattle.hsm_session.specs.Plans.{least_for}
-use Rattle.hsm_session.specs.Serving.{Over}
+use Rattle.hsm_session.specs.Serving.{EndsServing}
 use Rattle.hsm_session.proofs.Talking.{going_at, going_gathers, going_sends, over_short, over_write_fault}
 use Rattle.hsm_session.proofs.serving.answer_messages.Goals as goal
 
@@ -50,7 +50,7 @@ returns-in-Ok-send-clause-steps g c = λ start silent begun.
     let least : tools.frames.least ≡ least_for m c.args.kind = c.messages.invariant.least ∙ c.requires.least in
     let short = rw c.in-Short.is at c.next.ensures.answer in
     let sent = going_sends m c.args.kind lane start _ traffic _ _ _ _ c.in-Ok-send.ensures.ok (c.messages.invariant.going start begun) in
-    subst (λ (ended : ConnEnd). Over m c.args.kind lane start
+    subst (λ (ended : ConnEnd). EndsServing m c.args.kind lane start
     (scene tools.pass (g.C.Clock.last tools.clock) (g.C.Clock.to_come tools.clock) (g.G.Gate.calls tools.gate) traffic) c.messages.count ended)
     (sym c.end_short.ensures)
     (over_short m c.args.kind lane start _ _ _ c.in-Short.length (subst (λ (n : ℕ). IsShort n c.in-Short.length tools.frames.bytes) least short) silent sent)

@@ -1,6 +1,6 @@
 use Rattle.std.proofs.Common.{◌≡◌, ◌≤◌, length}
 use Rattle.hsm_session.specs.Connections.{Scene, scene}
-use Rattle.hsm_session.specs.Serving.{Going, holding}
+use Rattle.hsm_session.specs.Serving.{IsServing, holding}
 use Rattle.hsm_session.proofs.serving.answer_messages.Given as goal
 
 abbrev pub invariant-messages : goal.invariant-messages
@@ -11,10 +11,10 @@ invariant-messages g l = record {
   kept : g.K.Link.faults l.link ≡ g.K.Link.faults l.initial.link;
   lane : l.tools.lane ≡ l.initial.tools.lane;
   going : (start : Scene)
-      → Going l.module l.kind l.initial.tools.lane start
+      → IsServing l.module l.kind l.initial.tools.lane start
       (scene l.initial.tools.pass (g.C.Clock.last l.initial.tools.clock) (g.C.Clock.to_come l.initial.tools.clock) (g.G.Gate.calls l.initial.tools.gate) (g.K.Link.traffic l.initial.link))
       (holding l.initial.tools.frames.bytes l.initial.tools.out.items l.initial.count)
-      → Going l.module l.kind l.initial.tools.lane start
+      → IsServing l.module l.kind l.initial.tools.lane start
       (scene l.tools.pass (g.C.Clock.last l.tools.clock) (g.C.Clock.to_come l.tools.clock) (g.G.Gate.calls l.tools.gate) (g.K.Link.traffic l.link))
       (holding l.tools.frames.bytes l.tools.out.items l.count);
 }

@@ -1,11 +1,11 @@
 use Rattle.std.proofs.Common.{◌≡◌, ℕ, ◌++◌, List, ap, arith, refl, subst, sym, ◌∙◌}
 use Rattle.hsm_answers.specs.Messages.{message_answer}
 use Rattle.hsm_frame.specs.Frames.{frame}
-use Rattle.hsm_session.specs.declared.plans.Kind.{Kind}
+use Rattle.hsm_auth.specs.declared.activity.Place.{Place}
 use Rattle.hsm_session.specs.declared.serving.Count.{Count}
 use Rattle.hsm_session.specs.Connections.{scene}
 use Rattle.hsm_session.specs.Plans.{plan_message, side_of}
-use Rattle.hsm_session.specs.Serving.{Going, holding}
+use Rattle.hsm_session.specs.Serving.{IsServing, holding}
 use Rattle.hsm_session.proofs.Talking.{going_books}
 use Rattle.hsm_session.proofs.serving.book_message.Goals as goal
 
@@ -18,11 +18,11 @@ returns-clause-booked g c = λ start traffic rest out going.
     let place = c.book-booked.result.place in
     let plan = c.prepare-plan.result in
     let answered : c.finish.new.reply ≡ message_answer m (side_of kind) c.args.message.now granted =
-    c.finish.ensures ∙ (ap (λ (k : Kind). message_answer m (side_of k) (plan_message plan) granted) c.prepare-plan.ensures.kind
+    c.finish.ensures ∙ (ap (λ (k : Place). message_answer m (side_of k) (plan_message plan) granted) c.prepare-plan.ensures.kind
     ∙ ap (λ (message : List ℕ). message_answer m (side_of kind) message granted) c.prepare-plan.ensures.message) in
     let old = scene c.args.pass.now (g.C.Clock.last c.args.clock.now) (g.C.Clock.to_come c.args.clock.now) (g.G.Gate.calls c.args.gate.now) traffic in
     let new = scene c.book-booked.new.pass (g.C.Clock.last c.book-booked.new.clock) (g.C.Clock.to_come c.book-booked.new.clock) (g.G.Gate.calls c.after_book.new.self) traffic in
-    subst (λ (count : Count). Going m kind lane start new (holding rest (out ++ frame c.finish.new.reply) count))
+    subst (λ (count : Count). IsServing m kind lane start new (holding rest (out ++ frame c.finish.new.reply) count))
     (sym c.add.ensures)
     (going_books m kind lane start old new (g.G.Gate.calls c.before_book.new.self) c.args.message.now rest out c.finish.new.reply c.args.count.now
     c.ask.result granted place c.words_authorise.ensures (c.requires.least, omega (arith, c.requires.most)) (c.ask.ensures ∙ c.prepare-plan.ensures.ask) answered

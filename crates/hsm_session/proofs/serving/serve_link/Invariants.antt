@@ -2,7 +2,7 @@ use Rattle.std.proofs.Common.{◌≡◌, ◌≤◌, length}
 use Rattle.hsm_session.specs.Connections.{scene}
 use Rattle.hsm_session.specs.Lanes.{IsWaiting}
 use Rattle.hsm_session.specs.Plans.{least_for}
-use Rattle.hsm_session.specs.Serving.{Going, holding}
+use Rattle.hsm_session.specs.Serving.{IsServing, holding}
 use Rattle.hsm_session.proofs.serving.serve_link.Given as goal
 
 abbrev pub invariant-pieces : goal.invariant-pieces
@@ -13,7 +13,7 @@ invariant-pieces g l = record {
   counted : l.count.messages ≤ length l.tools.pass.seen;
   kept : g.K.Link.faults l.link ≡ g.K.Link.faults l.fn.link;
   lane : l.tools.lane ≡ l.fn.tools.lane;
-  going : Going l.module l.kind l.fn.tools.lane
+  going : IsServing l.module l.kind l.fn.tools.lane
       (scene l.fn.tools.pass (g.C.Clock.last l.fn.tools.clock) (g.C.Clock.to_come l.fn.tools.clock) (g.G.Gate.calls l.fn.tools.gate) (g.K.Link.traffic l.fn.link))
       (scene l.tools.pass (g.C.Clock.last l.tools.clock) (g.C.Clock.to_come l.tools.clock) (g.G.Gate.calls l.tools.gate) (g.K.Link.traffic l.link))
       (holding l.tools.frames.bytes l.tools.out.items l.count);

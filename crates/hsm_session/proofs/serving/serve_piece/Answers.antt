@@ -2,7 +2,7 @@ use Rattle.std.proofs.Common.{◌≡◌, ℕ, ◌++◌, List, take, subst, sym, 
 use Rattle.std.proofs.lemmas.Grind.{common_steps}
 use Rattle.hsm_session.specs.Connections.{Scene, scene}
 use Rattle.hsm_session.specs.Lanes.{AreBytes}
-use Rattle.hsm_session.specs.Serving.{Going, Sends, holding}
+use Rattle.hsm_session.specs.Serving.{IsServing, Sends, holding}
 use Rattle.hsm_session.proofs.Talking.{at_traffic, going_at, going_reads, going_sends, over_write_fault, steps_after}
 use Rattle.hsm_session.proofs.serving.serve_piece.Goals as goal
 
@@ -31,8 +31,8 @@ returns-in-Bytes-clause-steps g c =
     let are : AreBytes piece = grind (arith, common_steps, c.tell_bytes.ensures) in
     let fed : c.feed.new.self.bytes ≡ held ++ piece = grind (arith, common_steps, c.feed.ensures.held, c.feed.ensures.count, c.in-Bytes.ensures.bytes) in
     let told : Sends old.traffic sent_at out c.send.new.out.items = subst (λ (rest : List ℕ). Sends old.traffic sent_at out rest) (sym c.in-Ok.ensures.clear) c.in-Ok.ensures.ok in
-    let before : (start : Scene) → Going m kind lane start old (holding held out count)
-    → Going m kind lane start (at_traffic old read_at) (holding c.feed.new.self.bytes c.send.new.out.items count) = λ start begun.
+    let before : (start : Scene) → IsServing m kind lane start old (holding held out count)
+    → IsServing m kind lane start (at_traffic old read_at) (holding c.feed.new.self.bytes c.send.new.out.items count) = λ start begun.
     going_at m kind lane start (at_traffic old read_at) (held ++ piece) c.feed.new.self.bytes c.send.new.out.items count (sym fed)
     (going_reads m kind lane start (at_traffic old sent_at) read_at held c.send.new.out.items piece count are c.in-Bytes.ensures.bytes.2
     (going_sends m kind lane start old sent_at held out c.send.new.out.items count told begun)) in

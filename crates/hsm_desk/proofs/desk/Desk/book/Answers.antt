@@ -1,6 +1,6 @@
 use Rattle.std.proofs.Common.{ℕ, ap, sym, ◌∙◌, subst}
 use Rattle.hsm_auth.specs.History.{outcome}
-use Rattle.hsm_desk.specs.declared.view.Held.{Held}
+use Rattle.hsm_desk.specs.declared.view.InSlot.{InSlot}
 use Rattle.hsm_desk.specs.Rule.{Seated}
 use Rattle.hsm_desk.specs.Passes.{PassView, Sound}
 use Rattle.hsm_desk.proofs.OwnKept.{own_booked}
@@ -10,13 +10,13 @@ use Rattle.hsm_desk.proofs.desk.Desk.book.Goals as goal
 pub enter-place-requires-clause-entry : goal.enter-place-requires-clause-entry
 enter-place-requires-clause-entry g c =
     let known = c.take-held.new.seat.me.0.known in
-    let x : Held = c.step-granted.new.self in
+    let x : InSlot = c.step-granted.new.self in
     may_enter known.seen known.kin c.now-moment.result c.args.ask.now c.step-granted.result c.take-held.result.ledger.value x c.take-held.ensures.turn.ledger c.take-held.ensures.turn.legal c.step-granted.ensures.stands c.step-granted.ensures.legal c.step-granted.ensures.kept.0 c.step-granted.ensures.kept.1 c.step-granted.ensures.kept.2
 
 pub returns-clause-entry : goal.returns-clause-entry
 returns-clause-entry g c =
     let known = c.take-held.new.seat.me.0.known in
-    let x : Held = c.step-granted.new.self in
+    let x : InSlot = c.step-granted.new.self in
     let may = may_enter known.seen known.kin c.now-moment.result c.args.ask.now c.step-granted.result c.take-held.result.ledger.value x c.take-held.ensures.turn.ledger c.take-held.ensures.turn.legal c.step-granted.ensures.stands c.step-granted.ensures.legal c.step-granted.ensures.kept.0 c.step-granted.ensures.kept.1 c.step-granted.ensures.kept.2 in
     let answers = c.step-granted.ensures.answer known.seen c.take-held.ensures.turn.ledger ∙ ap (λ (m : ℕ). outcome known.seen m c.args.ask.now) (sym c.now-moment.ensures.last) in
     books_as c.args.pass.now c.pass.inside.seat.table_id c.enter-place.new.seat.table_id c.pass.inside.seat.me.0.known c.draw-ticket.result c.draw-ticket.new.seat.me c.take-held.new.seat.me c.enter-place.new.seat.me c.take-held.result x _ _ _ _
@@ -25,7 +25,7 @@ returns-clause-entry g c =
 pub invariant_of-pass : goal.invariant_of-pass
 invariant_of-pass g c =
     let known = c.take-held.new.seat.me.0.known in
-    let x : Held = c.step-granted.new.self in
+    let x : InSlot = c.step-granted.new.self in
     let may = may_enter known.seen known.kin c.now-moment.result c.args.ask.now c.step-granted.result c.take-held.result.ledger.value x c.take-held.ensures.turn.ledger c.take-held.ensures.turn.legal c.step-granted.ensures.stands c.step-granted.ensures.legal c.step-granted.ensures.kept.0 c.step-granted.ensures.kept.1 c.step-granted.ensures.kept.2 in (
       ap (λ (m : Seated). m.1) c.enter-place.ensures.made,
       ap (λ (m : Seated). m.0.stage) c.enter-place.ensures.made,
@@ -35,7 +35,7 @@ invariant_of-pass g c =
 pub returns-clause-sound : goal.returns-clause-sound
 returns-clause-sound g c =
     let known = c.take-held.new.seat.me.0.known in
-    let x : Held = c.step-granted.new.self in
+    let x : InSlot = c.step-granted.new.self in
     let may = may_enter known.seen known.kin c.now-moment.result c.args.ask.now c.step-granted.result c.take-held.result.ledger.value x c.take-held.ensures.turn.ledger c.take-held.ensures.turn.legal c.step-granted.ensures.stands c.step-granted.ensures.legal c.step-granted.ensures.kept.0 c.step-granted.ensures.kept.1 c.step-granted.ensures.kept.2 in
     sound_after c.pass.inside.seat.me.0.known c.draw-ticket.result c.draw-ticket.new.seat.me c.take-held.new.seat.me c.enter-place.new.seat.me c.take-held.result x c.pass.invariant.2 c.draw-ticket.ensures.drawn.0 c.draw-ticket.ensures.drawn.1 c.take-held.ensures.turn may.0 c.enter-place.ensures.made c.enter-place.ensures.own
 

@@ -1,6 +1,6 @@
 use Rattle.std.proofs.Common.{List, ℕ, ap, ◌∙◌}
 use Rattle.hsm_answers.specs.Messages.{message_answer}
-use Rattle.hsm_session.specs.declared.plans.Kind.{Kind}
+use Rattle.hsm_auth.specs.declared.activity.Place.{Place}
 use Rattle.hsm_session.specs.Plans.{plan_message, side_of}
 use Rattle.hsm_session.proofs.BookingLaws.{answered}
 use Rattle.hsm_session.proofs.lane.Buffers.answer.Goals as goal
@@ -12,5 +12,5 @@ returns g c =
     let plan = c.prepare-plan.result in
     answered m (side_of c.args.kind) c.args.moment c.args.message.now c.finish.new.reply c.ask.result granted c.args.ledger.now c.step-granted.new.self
     (c.ask.ensures ∙ c.prepare-plan.ensures.ask) c.step-granted.ensures.answer c.step-granted.ensures.stands c.step-granted.ensures.legal
-    (c.finish.ensures ∙ (ap (λ (kind : Kind). message_answer m (side_of kind) (plan_message plan) granted) c.prepare-plan.ensures.kind
+    (c.finish.ensures ∙ (ap (λ (kind : Place). message_answer m (side_of kind) (plan_message plan) granted) c.prepare-plan.ensures.kind
     ∙ ap (λ (message : List ℕ). message_answer m (side_of c.args.kind) message granted) c.prepare-plan.ensures.message))

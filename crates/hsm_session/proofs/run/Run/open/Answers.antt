@@ -1,6 +1,6 @@
 use Rattle.std.proofs.Common.{◌≡◌, ◌+◌, ◌∙◌, ◌∷◌, ℕ, [], List, None, length, length-append, slice_get, Some, sym, ap, subst, arith}
 use Rattle.hsm_frame.specs.Calls.{Held}
-use Rattle.hsm_session.specs.declared.lane.Lane.{Lane}
+use Rattle.hsm_session.specs.declared.lane.ScriptLane.{ScriptLane}
 use Rattle.hsm_session.specs.Plans.{least_length}
 use Rattle.hsm_session.specs.Lanes.{IsLaneAt, all_held}
 use Rattle.hsm_session.proofs.EndLaws.{lane_new, held_more}
@@ -19,7 +19,7 @@ lanes-preserved c =
     let at : IsLaneAt m (length lanes + 1) [] lane = subst (λ (n : ℕ). IsLaneAt m (n + 1) [] lane) (sym c.lanes.invariant.count) (lane_new m (c.lanes.number + 1) lane is) in
     record {
       count = omega (arith, ap length pushed, length-append lanes (lane ∷ []), c.lanes.invariant.count);
-      lanes = subst (λ (all : List Lane). (i : ℕ) (l : Lane) → slice_get all i ≡ Some l → IsLaneAt m (i + 1) [] l) (sym pushed)
-          (each_pushed (λ (i : ℕ) (l : Lane). IsLaneAt m (i + 1) [] l) lanes lane c.lanes.invariant.lanes at);
-      held = ap all_held pushed ∙ held_more lanes lane c.lanes.invariant.held (ap (λ (l : Lane). l.frames.bytes) is);
+      lanes = subst (λ (all : List ScriptLane). (i : ℕ) (l : ScriptLane) → slice_get all i ≡ Some l → IsLaneAt m (i + 1) [] l) (sym pushed)
+          (each_pushed (λ (i : ℕ) (l : ScriptLane). IsLaneAt m (i + 1) [] l) lanes lane c.lanes.invariant.lanes at);
+      held = ap all_held pushed ∙ held_more lanes lane c.lanes.invariant.held (ap (λ (l : ScriptLane). l.frames.bytes) is);
     }

@@ -2,7 +2,7 @@ use Rattle.std.proofs.Common.{ℕ, List, [], ◌∷◌, refl, subst}
 use Rattle.hsm_auth.specs.declared.entry.Entry.{Entry}
 use Rattle.hsm_auth.specs.History.{StandsFor}
 use Rattle.hsm_answers.specs.Messages.{console}
-use Rattle.hsm_session.specs.Booking.{Books, BooksFront, console_line, entry_of, reply_of}
+use Rattle.hsm_session.specs.Booking.{IsBooked, BooksFront, console_line, entry_of, reply_of}
 use Rattle.std.specs.Result.{OnErr}
 use Rattle.hsm_session.specs.Scripts.{Piece}
 use Rattle.hsm_session.specs.Reading.{said_of}
@@ -25,7 +25,7 @@ returns-in_ok-print_console-in-Console-clause-takes g c =
     (takes_console c.args.module.now c.args.self.now _ c.in-Console.text.items c.args.ledger.now c.print_console.new.ledger (g.S.Sink.stands_for c.args.out.now)
     (g.S.Sink.stands_for c.print_console.new.out) refl refl refl
     (subst (λ (text : List ℕ). (h : List Entry) → StandsFor c.args.ledger.now h
-    → Books h (entry_of c.args.module.now console c.args.self.now.moment h text ∷ []) (console_line (reply_of c.args.module.now console c.args.self.now.moment h text))
+    → IsBooked h (entry_of c.args.module.now console c.args.self.now.moment h text ∷ []) (console_line (reply_of c.args.module.now console c.args.self.now.moment h text))
     c.print_console.new.ledger (g.S.Sink.stands_for c.args.out.now) (g.S.Sink.stands_for c.print_console.new.out))
     c.deref-in-Console.ensures.value c.in_ok-print_console-in-Console.ensures.booked))
 

@@ -1,13 +1,13 @@
 use Rattle.std.proofs.Common.{[], ◌≡◌, ◌∙◌, ◌+◌, ◌++◌, ℕ, List, take, arith, refl, sym, ap, subst}
 use Rattle.hsm_frame.specs.Calls.{Held, IsNotYet}
 use Rattle.hsm_frame.specs.Frames.{IsShort}
-use Rattle.hsm_session.specs.declared.lane.Lane.{Lane}
+use Rattle.hsm_session.specs.declared.lane.ScriptLane.{ScriptLane}
 use Rattle.hsm_session.specs.Runs.{closed_line}
 use Rattle.hsm_session.proofs.Feeding.{Feeds, feeds_none, feeds_more, feeds_piece, feeds_short, feeds_closed, parted, all_parted}
 use Rattle.hsm_session.proofs.BookingLaws.{for_err, still_known}
 use Rattle.hsm_session.specs.Lanes.{StopsPiece}
 use Rattle.hsm_session.proofs.Stopping.{stops_closed, stops_part, stops_short}
-use Rattle.hsm_session.proofs.lane.Lane.take_piece.Goals as goal
+use Rattle.hsm_session.proofs.lane.ScriptLane.take_piece.Goals as goal
 
 pub returns-in-Some-clause-feeds : goal.returns-in-Some-clause-feeds
 unfolding closed_line
@@ -21,7 +21,7 @@ returns-in-Some-short-clause-feeds g c =
     let moment = c.args.moment in
     let before = g.S.Sink.stands_for c.args.out.now in
     let taken = c.feed-taken.result in
-    let mid : Lane = record {
+    let mid : ScriptLane = record {
       number = c.chunks.self.number;
       frames = c.answer_held.new.frames;
       short = c.chunks.self.short;
@@ -115,7 +115,7 @@ returns-in_err-print_short-clause-stops g c =
     let before = g.S.Sink.stands_for c.args.out.now in
     let after = g.S.Sink.stands_for c.print_short.new.out in
     let taken = c.feed-taken.result in
-    let mid : Lane = record {
+    let mid : ScriptLane = record {
       number = c.chunks.self.number;
       frames = c.answer_held.new.frames;
       short = c.chunks.self.short;

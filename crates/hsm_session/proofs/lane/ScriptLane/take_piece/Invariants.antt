@@ -2,7 +2,7 @@ use Rattle.std.proofs.Common.{◌≡◌, ◌<◌, ◌++◌, length, None, List, 
 use Rattle.hsm_frame.specs.Calls.{IsNotYet}
 use Rattle.hsm_auth.specs.History.{IsKnown}
 use Rattle.hsm_session.proofs.Feeding.{Feeds}
-use Rattle.hsm_session.proofs.lane.Lane.take_piece.Given as goal
+use Rattle.hsm_session.proofs.lane.ScriptLane.take_piece.Given as goal
 
 abbrev pub invariant-chunks : goal.invariant-chunks
 invariant-chunks g l = record {
