@@ -21,5 +21,3 @@ pub use settings::Module;
 pub use table::{ROWS, console_row, row_of, rows};
 pub use texts::{decimal_value, digit, same_text, text_at, token_run, two_digit_value};
 
-#[cfg(test)]
-mod tests;

@@ -2,16 +2,8 @@
 //! `hsm_tool check CONFIG` checks a configuration, and `hsm_tool explain CODE` prints a command.
 #![tactic(auto)]
 
-mod bench;
-mod clock;
-mod files;
-mod sockets;
-
-pub use bench::SystemBench;
-pub use clock::SystemClock;
-pub use files::{Output, SystemFile};
 use hsm_program::{Outcome, hsm_run};
-pub use sockets::{SystemDoor, SystemLink};
+use hsm_system::{Output, SystemBench};
 use std::process::ExitCode;
 use std::{env, io};
 
@@ -49,6 +41,3 @@ fn words_of(rt: &HostRuntime) -> Result<Vec<String>, (u8, Outcome)> {
         Err(_) => Err((2, Outcome::Usage(0))),
     }
 }
-
-#[cfg(test)]
-mod tests;

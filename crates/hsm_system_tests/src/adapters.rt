@@ -1,23 +1,20 @@
-// Each adapter, and lanes over sockets.
+// Each adapter, and ports that are taken.
 ghost use Rattle.std.specs.Prelude.{◌≡◌, false, IfOk};
 
-mod acquirer;
-mod connections;
-
-use super::*;
 use hsm_io::{Bench, Clock, Got, MemSink, Put, Sink, Source, write_all};
-use hsm_program::read_all;
+use hsm_program::{Outcome, hsm_run, read_all};
+use hsm_system::{Output, SystemBench, SystemDoor};
 use std::alloc::Global;
-use std::fs;
 use std::net::TcpListener;
 use std::test::Fail;
+use std::{fs, io};
 
 const SCRIPT: &[u8] = b"L1 001930303031425530313038354538313335343046304142343035\n";
 
 const ANSWER: &[u8] = b"L1 000E3030303142563030443544343446\nEND 1\n";
 
 // The LMKs of the test laboratory.
-const SET_T: &str = "\"test\"";
+pub(crate) const SET_T: &str = "\"test\"";
 
 #[test]
 fn system_files(rt: HostRuntime) -> Result<(), Fail> {
@@ -76,7 +73,7 @@ fn free_port(rt: &HostRuntime) -> io::Result<u16> {
 }
 
 // A door at a port that nobody else has, and that port.
-fn any_door(rt: &HostRuntime) -> Result<(SystemDoor, u16), Fail>
+pub(crate) fn any_door(rt: &HostRuntime) -> Result<(SystemDoor, u16), Fail>
     ensures { IfOk result (λ r. r.0.is_out ≡ false) }
 {
     for _ in 0..100 {
@@ -89,7 +86,7 @@ fn any_door(rt: &HostRuntime) -> Result<(SystemDoor, u16), Fail>
 }
 
 // A configuration with these LMKs, one host port, and one connection a lane.
-fn settings(alloc: Global, lmks: &str, console: u16, host: u16) -> Result<String, Fail> {
+pub(crate) fn settings(alloc: Global, lmks: &str, console: u16, host: u16) -> Result<String, Fail> {
     let mut text = String::from_str(alloc, "version = 1\nheader = 4\naccept = 1\n")?;
     text.push_str(
         "officers = [\"ba7816bf8f01cfea414140de5dae2223b00361a396177a9cb410ff61f20015ad\", ",

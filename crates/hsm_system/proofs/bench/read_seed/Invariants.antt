@@ -1,5 +1,5 @@
 use Rattle.std.proofs.Common.{◌-◌, ◌≤◌}
-use Rattle.hsm_tool.proofs.bench.read_seed.Given as goal
+use Rattle.hsm_system.proofs.bench.read_seed.Given as goal
 
 abbrev pub invariant-loop-at : goal.invariant-loop-at
 invariant-loop-at l = l.at ≤ 32

@@ -1,4 +1,5 @@
-use crate::{Code, console_row, explain, read_fields, row_of};
+// What rows read and refuse, and how they are explained.
+use hsm_rows::{Code, console_row, explain, read_fields, row_of};
 use hsm_text::Reply;
 use std::process::Abort;
 

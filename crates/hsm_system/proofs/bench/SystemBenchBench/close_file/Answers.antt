@@ -1,7 +1,7 @@
 use Rattle.std.proofs.Common.{arith, refl, take, ap, sym, List, ℕ, length, ◌≡◌, ◌≤◌, ◌<◌, ◌∙◌, rules, inl}
 use Rattle.std.proofs.lemmas.List.{take_all}
 use Rattle.std.proofs.lemmas.Bool.Decides.{nat_tests}
-use Rattle.hsm_tool.proofs.bench.SystemBenchBench.close_file.Goals as goal
+use Rattle.hsm_system.proofs.bench.SystemBenchBench.close_file.Goals as goal
 
 pub returns-then-has_failed-clause-files : goal.returns-then-has_failed-clause-files
 returns-then-has_failed-clause-files c =

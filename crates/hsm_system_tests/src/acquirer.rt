@@ -4,22 +4,25 @@ ghost use Rattle.std.specs.Prelude.{None, All};
 ghost use Rattle.std.specs.Thread.{IsSync};
 ghost use Rattle.hsm_server.specs.Lanes.{IsReady, lane_state};
 
-use super::connections::{add, module_of, run_all};
-use super::*;
+use crate::adapters::{SET_T, any_door};
+use crate::connections::{add, module_of, run_all};
 use hsm_auth::Ledger;
 use hsm_desk::Desk;
 use hsm_io::{Clock, Door, Gate};
 use hsm_rows::Module;
 use hsm_server::Lane;
 use hsm_session::ConnEnd;
+use hsm_system::SystemClock;
+use std::alloc::Global;
 use std::io::{Read, Write};
 use std::net::TcpStream;
 use std::process::Abort;
 use std::sync::Wait;
 use std::sync::atomic::{AtomicBool, Ordering};
-use std::thread;
+use std::test::Fail;
 use std::thread::Threads;
 use std::time::Duration;
+use std::{io, thread};
 
 // How often a lane or a client looks whether another has got on.
 const TURNS: u32 = 8_000;

@@ -3,17 +3,20 @@ ghost use Rattle.std.specs.Prelude.{◌≡◌, [], false, All, OnOk, Some};
 ghost use Rattle.hsm_io.specs.Connections.{Doorway};
 ghost use Rattle.hsm_server.specs.Lanes.{IsReady, lane_state};
 
-use super::*;
+use crate::adapters::{any_door, settings};
 use hsm_auth::Ledger;
 use hsm_config::Config;
 use hsm_desk::{Desk, Pass};
-use hsm_io::{Came, Clock, Door, Gate, Link, OpenGate};
+use hsm_io::{Bench, Came, Clock, Door, Gate, Got, Link, OpenGate, Put};
 use hsm_rows::Module;
 use hsm_server::{Lane, kind_for, run_lanes};
 use hsm_session::{ConnEnd, least_message};
+use hsm_system::{SystemBench, SystemClock, SystemDoor};
+use std::alloc::Global;
 use std::io::{Read, Write};
 use std::net::{Shutdown, TcpStream};
 use std::sync::Wait;
+use std::test::Fail;
 use std::thread::Threads;
 
 // In each LMK pair 133457799BBCDFF1 twice.
@@ -32,7 +35,7 @@ const ASKED: &[u8] = b"\x00\x190001BU01085E813540F0AB405";
 const ANSWERED: &[u8] = b"\x00\x0E0001BV00D5D44F";
 
 // The module of these LMKs, with a seed of the system.
-pub(super) fn module_of(rt: &HostRuntime, lmks: &str) -> Result<Module, Fail> {
+pub(crate) fn module_of(rt: &HostRuntime, lmks: &str) -> Result<Module, Fail> {
     let text = settings(rt.alloc(), lmks, 1500, 1501)?;
     let seed = SystemBench::new(rt).seed().ok_or("no seed")?;
     match Config::read(rt.alloc(), text.as_bytes()) {
@@ -42,7 +45,7 @@ pub(super) fn module_of(rt: &HostRuntime, lmks: &str) -> Result<Module, Fail> {
 }
 
 // Adds a lane that serves one connection.
-pub(super) fn add<D: Door + Send + Drop, C: Clock + Send + Drop, G: Gate + Send + Drop>(
+pub(crate) fn add<D: Door + Send + Drop, C: Clock + Send + Drop, G: Gate + Send + Drop>(
     alloc: Global,
     module: &Module,
     desk: &Desk,
@@ -68,7 +71,7 @@ pub(super) fn add<D: Door + Send + Drop, C: Clock + Send + Drop, G: Gate + Send 
 }
 
 // Runs the lanes.
-pub(super) fn run_all<R, D, C, G>(
+pub(crate) fn run_all<R, D, C, G>(
     rt: &R,
     module: &Module,
     desk: &Desk,

@@ -1,0 +1,5 @@
+//! Tests of the command table. Their expected values come from outside.
+#![tactic(auto)]
+
+#[cfg(test)]
+mod rows;
