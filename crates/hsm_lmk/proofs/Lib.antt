@@ -4,3 +4,4 @@ pub mod OpenedLaws
 pub mod SealedLaws
 pub mod OpenAnswers
 pub mod PairLemmas
+pub mod CacheLaws

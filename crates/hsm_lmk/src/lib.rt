@@ -10,12 +10,16 @@ ghost use Rattle.hsm_lmk.specs.Opening.{AllPairsOdd, IsFirstEven, Opens, refuses
 ghost use Rattle.hsm_lmk.specs.Pairs.{AllOdd, lmk_pair};
 ghost use Rattle.hsm_lmk.specs.Sealing.{Sealed, under, varied, scheme_variants, type_variants, wrap, block_at, pair_key, lmk_check};
 
+mod cache;
+mod kept;
 pub mod laws;
 
 use arrayvec::ArrayVec;
+pub use cache::open_cached;
 use hsm_parity::is_odd;
 use hsm_tdes::{Key, decipher, encipher};
 use hsm_types::{KeyType, Scheme, length_allowed, pair, scheme_parts, variant};
+pub use kept::{KeyCache, KeyEntry};
 use std::fmt;
 use std::marker::Model;
 use thiserror::Error;

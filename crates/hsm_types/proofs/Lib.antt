@@ -1,3 +1,4 @@
+pub mod SameScheme
 pub mod SameType
 pub mod Codes
 pub mod PinLemmas

@@ -1,6 +1,6 @@
 //! Schemes of key texts.
-ghost use Rattle.std.specs.Prelude.{◌≡◌, ◌≤◌};
-ghost use Rattle.hsm_types.specs.Schemes.{scheme_parts};
+ghost use Rattle.std.specs.Prelude.{◌≡◌, ◌≤◌, ◌↔◌, IsTrue};
+ghost use Rattle.hsm_types.specs.Schemes.{same_scheme, scheme_parts};
 
 use crate::types::Scheme;
 
@@ -14,5 +14,15 @@ pub fn scheme_parts(scheme: Scheme) -> usize
         Scheme::Z => 1,
         Scheme::P | Scheme::U | Scheme::X => 2,
         Scheme::T | Scheme::Y => 3,
+    }
+}
+
+impl Scheme {
+    /// Whether the two are the same scheme.
+    pub fn is(self, other: Scheme) -> bool
+        ensures value { result ≡ same_scheme self other }
+        ensures equal { IsTrue result ↔ (self ≡ other) }
+    {
+        self == other
     }
 }

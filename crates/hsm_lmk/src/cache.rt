@@ -1,0 +1,127 @@
+//! A cache of keys that were opened under LMK pairs.
+ghost use Rattle.std.specs.Prelude.{◌≡◌, ◌≤◌, ◌^◌, ◌*◌, ◌++◌, ◌∷◌, [], length, min, ◌+◌, IfOk, IfErr, option_map, option_copied};
+ghost use Rattle.hsm_types.specs.Schemes.{scheme_parts};
+ghost use Rattle.hsm_types.specs.Table.{allows_length};
+ghost use Rattle.hsm_lmk.specs.Cache.{Agrees, entry_of, is_of, kept_one, within};
+ghost use Rattle.hsm_lmk.specs.Caches.{capacity_of, kept_in};
+ghost use Rattle.hsm_lmk.specs.Opened.{open_answer};
+ghost use Rattle.hsm_lmk.specs.Opening.{refuses_scheme};
+ghost use Rattle.hsm_lmk.specs.Sealing.{wrap};
+
+use crate::kept::{KeyCache, KeyEntry};
+use crate::{LmkSet, OpenFault, open};
+use arrayvec::ArrayVec;
+use circular_buffer::HeapCircularBuffer;
+use hsm_tdes::Key;
+use hsm_types::{KeyType, Scheme};
+use std::alloc::{AllocError, Global};
+
+impl KeyCache {
+    /// A cache of no entries, which will keep at most `capacity` of them, 1 to 64. All its memory is taken here.
+    pub fn new(alloc: Global, capacity: usize) -> Result<KeyCache, AllocError>
+        requires { (1 ≤ capacity) × (capacity ≤ 64) }
+        ensures kept { IfOk result (λ cache. kept_in cache ≡ record { entries = []; hits = 0 }) }
+        ensures capacity { IfOk result (λ cache. capacity_of cache ≡ capacity) }
+    {
+        Ok(KeyCache {
+            entries: HeapCircularBuffer::with_capacity(alloc, capacity)?,
+            hits: 0,
+        })
+    }
+
+    /// How often a key was found, at most 2^63.
+    pub fn hits(&self) -> u64
+        ensures value { result ≡ (kept_in self.now).hits }
+        ensures most { result ≤ 2 ^ 63 }
+    {
+        self.hits
+    }
+
+    // The key of the first entry that has this type, scheme and text.
+    fn find(&self, ty: KeyType, scheme: Scheme, text: &[u8]) -> Option<Key>
+        ensures { result ≡ option_map (λ e. e.key) (entry_of ty scheme text.now (kept_in self.now).entries) }
+    {
+        let (older, newer) = self.entries.as_slices();
+        match key_among(older, ty, scheme, text) {
+            Some(key) => Some(key),
+            None => key_among(newer, ty, scheme, text),
+        }
+    }
+
+    // Counts a key that was found.
+    fn count(&mut self)
+        ensures hits { self.new.hits ≡ min (self.old.hits + 1) (2 ^ 63) }
+        ensures entries { self.new.entries ≡ self.old.entries }
+    {
+        if self.hits < 1 << 63 {
+            self.hits += 1;
+        }
+    }
+
+    // Appends an entry; where there are then too many the oldest goes.
+    fn append(&mut self, entry: KeyEntry)
+        ensures entries { self.new.entries.items ≡ within self.old.entries.capacity (self.old.entries.items ++ entry ∷ []) }
+        ensures capacity { self.new.entries.capacity ≡ self.old.entries.capacity }
+        ensures hits { self.new.hits ≡ self.old.hits }
+    {
+        prove!(self.entries.len() <= self.entries.capacity());
+        self.entries.push_back(entry);
+    }
+}
+
+// Whether the entry has this type, scheme and text.
+fn is_of(entry: &KeyEntry, ty: KeyType, scheme: Scheme, text: &[u8]) -> bool
+    ensures { result ≡ is_of ty scheme text.now entry.now }
+{
+    entry.ty.is(ty) && entry.scheme.is(scheme) && entry.text.as_slice() == text
+}
+
+// The key of the first of these entries that has this type, scheme and text.
+fn key_among(entries: &[KeyEntry], ty: KeyType, scheme: Scheme, text: &[u8]) -> Option<Key>
+    ensures { result ≡ option_map (λ e. e.key) (entry_of ty scheme text.now entries.now) }
+{
+    match entries {
+        [] => None,
+        [entry, more @ ..] => {
+            if is_of(entry, ty, scheme, text) {
+                Some(entry.key)
+            } else {
+                key_among(more, ty, scheme, text)
+            }
+        }
+    }
+}
+
+/// What `open` answers. A key that is kept by its type, scheme and text is not opened anew; another one is kept, and
+/// where there are then too many the oldest goes.
+pub fn open_cached(
+    cache: &mut KeyCache,
+    set: &LmkSet,
+    ty: KeyType,
+    scheme: Scheme,
+    text: &[u8],
+) -> Result<Key, OpenFault>
+    requires size { length text.now ≡ 8 * scheme_parts scheme }
+    requires agrees { Agrees set.now (kept_in cache.old).entries }
+    ensures value { result ≡ open_answer (refuses_scheme ty scheme) (allows_length ty (scheme_parts scheme)) (wrap set.now ty) scheme text.now }
+    ensures agrees { Agrees set.now (kept_in cache.new).entries }
+    ensures kept { IfOk result (λ key. kept_in cache.new
+        ≡ kept_one (capacity_of cache.old) (kept_in cache.old) (record { ty = ty; scheme = scheme; text = record { items = text.now }; key = key })) }
+    ensures fault { IfErr result (λ _. cache.new ≡ cache.old) }
+    ensures capacity { capacity_of cache.new ≡ capacity_of cache.old }
+{
+    if let Some(key) = cache.find(ty, scheme, text) {
+        cache.count();
+        return Ok(key);
+    }
+    let key = open(set, ty, scheme, text)?;
+    let mut kept = ArrayVec::new();
+    let _ = kept.try_extend_from_slice(text);
+    cache.append(KeyEntry {
+        ty,
+        scheme,
+        text: kept,
+        key,
+    });
+    Ok(key)
+}
