@@ -5,8 +5,7 @@ use Rattle.std.specs.Option.{option_map}
 use Rattle.hsm_auth.specs.declared.entry.Granted.{Granted}
 use Rattle.hsm_rows.specs.declared.settings.Module.{Module}
 use Rattle.hsm_rows.specs.declared.row.Code.{Code}
-use Rattle.hsm_rows.specs.Table.{RowShape}
-use Rattle.hsm_rows.specs.Rules.{rules_of}
+use Rattle.hsm_rows.specs.Table.{RowShape, rules_of}
 use Rattle.hsm_rows.specs.Texts.{two_digits}
 use Rattle.hsm_rows.specs.Reading.{reading, ReadText, is_console}
 use Rattle.hsm_answers.specs.declared.plans.Checked.{Checked}

@@ -16,8 +16,8 @@ use Rattle.hsm_auth.specs.Activities.{covers}
 use Rattle.hsm_auth.specs.Grants.{GivenAt, IsLive}
 use Rattle.hsm_auth.specs.History.{end_of, ends, outcome, live, is_met, next, now}
 use Rattle.hsm_rows.specs.declared.settings.Module.{Module}
-use Rattle.hsm_rows.specs.Table.{RowShape, row_with, host_rows, console_rows, row_A0, row_A6, row_A8, row_BU, row_CA, row_CC, row_DE, row_DG, row_DA, row_EA, row_DC, row_EC, row_BA, row_NG, row_JA, row_CW, row_CY, row_M6, row_M8, row_B2, row_NC, row_NO, row_RA, row_A, row_C, row_VA, row_Q, row_LOG, row_GC, row_FK}
-use Rattle.hsm_rows.specs.Rules.{rules_of, host_rules, console_rules, rules_NG, rules_GC}
+use Rattle.hsm_rows.specs.Table.{RowShape, row_with, host_rows, console_rows, row_A0, row_A6, row_A8, row_BU, row_CA, row_CC, row_DE, row_DG, row_DA, row_EA, row_DC, row_EC, row_BA, row_NG, row_JA, row_CW, row_CY, row_M6, row_M8, row_B2, row_NC, row_NO, row_RA, row_A, row_C, row_VA, row_Q, row_LOG, row_GC, row_FK, rules_of}
+use Rattle.hsm_rows.specs.Rules.{rules_NG, rules_GC}
 use Rattle.hsm_rows.specs.Reading.{ReadText}
 use Rattle.hsm_rows.specs.Clear.{has_clear}
 use Rattle.hsm_answers.specs.Keys.{first_code, type_of}
@@ -87,11 +87,11 @@ record NeedsOne (row : RowShape) (m : Module) (read : ReadText) : Type 0 where
   asks : row_ask m (rules_of row) read (rules_of row).ask ≡ ask.Use (only_need need) (asked_words m (rules_of row) read)
 
 needs_NG : (m : Module) (read : ReadText) → NeedsOne row_NG m read
-unfolding rules_of host_rules row_NG rules_NG row_ask needs_of
+unfolding row_NG rules_NG row_ask needs_of
 needs_NG m read = record { need = clear_pins; needed = refl; is = inl (refl, refl); asks = refl }
 
 needs_GC : (m : Module) (read : ReadText) → NeedsOne row_GC m read
-unfolding rules_of console_rules row_GC rules_GC row_ask needs_of type_of
+unfolding row_GC rules_GC row_ask needs_of type_of
 needs_GC m read = record { need = components read; needed = refl; is = inr (refl, refl); asks = refl }
 
 needs_marked : (m : Module) (read : ReadText) (row : RowShape) → IsMarked row → NeedsOne row m read

@@ -10,8 +10,10 @@ use Rattle.hsm_auth.specs.declared.entry.Ask.TheVariants as ask
 use Rattle.hsm_auth.specs.Activities.{activity_of}
 use Rattle.hsm_rows.specs.declared.settings.Module.{Module}
 use Rattle.hsm_rows.specs.declared.row.Code.{Code}
-use Rattle.hsm_rows.specs.Table.{RowShape, host_rows, console_rows, row_A0, row_A6, row_A8, row_BU, row_CA, row_CC, row_DE, row_DG, row_DA, row_EA, row_DC, row_EC, row_BA, row_NG, row_JA, row_CW, row_CY, row_M6, row_M8, row_B2, row_NC, row_NO, row_RA, row_A, row_C, row_VA, row_Q, row_LOG, row_GC, row_FK}
-use Rattle.hsm_rows.specs.Rules.{RowRules, AskKind, use_ask, look_ask, recent_ask, cancel_all_ask, authorise_ask, cancel_ask, rules_of, host_rules, console_rules, rules_A0, rules_A6, rules_A8, rules_BU, rules_CA, rules_CC, rules_DE, rules_DG, rules_DA, rules_EA, rules_DC, rules_EC, rules_BA, rules_NG, rules_JA, rules_CW, rules_CY, rules_M6, rules_M8, rules_B2, rules_NC, rules_NO, rules_RA, rules_A, rules_C, rules_VA, rules_Q, rules_LOG, rules_GC, rules_FK}
+use Rattle.hsm_rows.specs.Table.{RowShape, host_rows, console_rows, row_A0, row_A6, row_A8, row_BU, row_CA, row_CC, row_DE, row_DG, row_DA, row_EA, row_DC, row_EC, row_BA, row_NG, row_JA, row_CW, row_CY, row_M6, row_M8, row_B2, row_NC, row_NO, row_RA, row_A, row_C, row_VA, row_Q, row_LOG, row_GC, row_FK, rules_of}
+use Rattle.hsm_rows.specs.Rules.{RowRules, rules_A0, rules_A6, rules_A8, rules_BU, rules_CA, rules_CC, rules_DE, rules_DG, rules_DA, rules_EA, rules_DC, rules_EC, rules_BA, rules_NG, rules_JA, rules_CW, rules_CY, rules_M6, rules_M8, rules_RA, rules_A, rules_C, rules_LOG, rules_GC, rules_FK}
+use Rattle.hsm_rows.specs.declared.rules.AskKind.{AskKind}
+use Rattle.hsm_rows.specs.declared.rules.AskKind.TheVariants.{UseAsk, LookAsk, RecentAsk, CancelAllAsk, AuthoriseAsk, CancelAsk}
 use Rattle.hsm_rows.specs.Forms.{decimal_from}
 use Rattle.hsm_rows.specs.Reading.{reading, ReadText}
 use Rattle.hsm_answers.specs.Keys.{field_text}
@@ -51,13 +53,13 @@ never : (side : Side) (row : RowShape) → is_authorise (rules_of row).ask ≡ f
 never side row other = λ authorises. absurd (cc)
 
 host_only : AllByRecursion (OnlyA host) host_rows
-unfolding rules_of host_rules host_rows row_A0 row_A6 row_A8 row_BU row_CA row_CC row_DE row_DG row_DA row_EA row_DC row_EC row_BA row_NG row_JA row_CW row_CY row_M6 row_M8 row_B2 row_NC row_NO row_RA rules_A0 rules_A6 rules_A8 rules_BU rules_CA rules_CC rules_DE rules_DG rules_DA rules_EA rules_DC rules_EC rules_BA rules_NG rules_JA rules_CW rules_CY rules_M6 rules_M8 rules_B2 rules_NC rules_NO rules_RA
+unfolding host_rows row_A0 row_A6 row_A8 row_BU row_CA row_CC row_DE row_DG row_DA row_EA row_DC row_EC row_BA row_NG row_JA row_CW row_CY row_M6 row_M8 row_B2 row_NC row_NO row_RA rules_A0 rules_A6 rules_A8 rules_BU rules_CA rules_CC rules_DE rules_DG rules_DA rules_EA rules_DC rules_EC rules_BA rules_NG rules_JA rules_CW rules_CY rules_M6 rules_M8 rules_RA
 host_only =
     let no : (row : RowShape) → is_authorise (rules_of row).ask ≡ false → OnlyA host row = never host in
     (no row_A0 refl, (no row_A6 refl, (no row_A8 refl, (no row_BU refl, (no row_CA refl, (no row_CC refl, (no row_DE refl, (no row_DG refl, (no row_DA refl, (no row_EA refl, (no row_DC refl, (no row_EC refl, (no row_BA refl, (no row_NG refl, (no row_JA refl, (no row_CW refl, (no row_CY refl, (no row_M6 refl, (no row_M8 refl, (no row_B2 refl, (no row_NC refl, (no row_NO refl, (no row_RA refl, tt)))))))))))))))))))))))
 
 console_only : AllByRecursion (OnlyA console) console_rows
-unfolding rules_of console_rules console_rows row_A row_C row_VA row_Q row_LOG row_GC row_FK rules_A rules_C rules_VA rules_Q rules_LOG rules_GC rules_FK
+unfolding console_rows row_A row_C row_VA row_Q row_LOG row_GC row_FK rules_A rules_C rules_LOG rules_GC rules_FK
 console_only =
     let no : (row : RowShape) → is_authorise (rules_of row).ask ≡ false → OnlyA console row = never console in
     (λ authorises. (refl, refl), (no row_C refl, (no row_VA refl, (no row_Q refl, (no row_LOG refl, (no row_GC refl, (no row_FK refl, tt)))))))
@@ -73,19 +75,19 @@ module _ (m : Module) (a : Activity) (n : ℕ) where
   cancels false (Some b) h = cc
 
   -- an ask that authorises is that of a row which does
-  kind_is : (rules : RowRules) (r : ReadText) (kind : AskKind) → row_ask m rules r kind ≡ ask.Authorise a n → kind ≡ authorise_ask
+  kind_is : (rules : RowRules) (r : ReadText) (kind : AskKind) → row_ask m rules r kind ≡ ask.Authorise a n → kind ≡ AuthoriseAsk
   unfolding row_ask
-  kind_is rules r use_ask h = absurd (cc)
-  kind_is rules r look_ask h = absurd (cc)
-  kind_is rules r recent_ask h = absurd (cc)
-  kind_is rules r cancel_all_ask h = absurd (cc)
-  kind_is rules r authorise_ask h = refl
-  kind_is rules r cancel_ask h = absurd (cancels (bytes_eq (field_text r 0) (codes "*")) (activity_of (field_text r 0)) h)
+  kind_is rules r UseAsk h = absurd (cc)
+  kind_is rules r LookAsk h = absurd (cc)
+  kind_is rules r RecentAsk h = absurd (cc)
+  kind_is rules r CancelAllAsk h = absurd (cc)
+  kind_is rules r AuthoriseAsk h = refl
+  kind_is rules r CancelAsk h = absurd (cancels (bytes_eq (field_text r 0) (codes "*")) (activity_of (field_text r 0)) h)
 
   none : {X : Type 0} → empty_ask ≡ ask.Authorise a n → X
   none h = absurd (cc)
 
-  authorises_kind : (kind : AskKind) → kind ≡ authorise_ask → is_authorise kind ≡ true
+  authorises_kind : (kind : AskKind) → kind ≡ AuthoriseAsk → is_authorise kind ≡ true
   authorises_kind kind e = ap is_authorise e
 
   -- an `A` whose ask authorises
@@ -102,7 +104,7 @@ module _ (m : Module) (a : Activity) (n : ℕ) where
   by_row : (side : Side) (message : List ℕ) (row : RowShape) (r : ReadText) → enabled_row m side (command_of m side message) ≡ Some row
       → reading row (text_after m side message) ≡ Ok r → (side ≡ console) × (row ≡ row_A)
       → row_ask m (rules_of row) r (rules_of row).ask ≡ ask.Authorise a n → Authorises m side message a n
-  unfolding rules_of console_rules row_A rules_A row_ask words_hold
+  unfolding row_A rules_A row_ask words_hold
   by_row side message row r f e is h =
       by_words side message r is.0 (f ∙ ap (λ (d : RowShape). Some d) is.1) (ap (λ (d : RowShape). reading d (text_after m side message)) (sym is.1) ∙ e)
       (are_digests m.officers (field_text r 2) (field_text r 3)) refl (activity_of (field_text r 0)) refl

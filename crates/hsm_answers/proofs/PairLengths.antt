@@ -4,20 +4,20 @@ use Rattle.std.specs.Prelude.{Some, None, if◌then◌else◌, slice_get}
 use Rattle.hsm_types.specs.Schemes.{scheme_parts}
 use Rattle.hsm_nibbles.specs.Characters.{bytes_of_hex}
 use Rattle.hsm_text.specs.KeyTexts.{scheme_of, digits_of}
-use Rattle.hsm_rows.specs.Rules.{lmk}
+use Rattle.hsm_rows.specs.declared.rules.Under.TheVariants.{Lmk}
 use Rattle.hsm_answers.specs.declared.keys.Asked.{Asked}
 use Rattle.hsm_answers.specs.Keys.{KeyData, key_of, is_whole, key_data_fault, opened_key}
 use Rattle.hsm_answers.specs.Values.{second_part}
 use Rattle.hsm_answers.proofs.Lengths.{opened_length}
 
 -- the key text, if its digits are whole
-whole_key : (w : List (List ℕ)) (a : Asked) (k : KeyData) (b : Bool) → key_data_fault (Some w) lmk a (if b then Some k else None) ≡ None → length (opened_key w (if b then Some k else None)) ≡ scheme_parts k.scheme
+whole_key : (w : List (List ℕ)) (a : Asked) (k : KeyData) (b : Bool) → key_data_fault (Some w) Lmk a (if b then Some k else None) ≡ None → length (opened_key w (if b then Some k else None)) ≡ scheme_parts k.scheme
 unfolding key_data_fault
 whole_key w a k true h = opened_length w k.scheme k.bytes
 whole_key w a k false h = let z : ⊥ = cc in absurd z
 
 -- a key without a fault has the parts of its text's scheme
-pub key_parts : (w : List (List ℕ)) (a : Asked) (text : List ℕ) → key_data_fault (Some w) lmk a (key_of text) ≡ None → length (opened_key w (key_of text)) ≡ scheme_parts (scheme_of text)
+pub key_parts : (w : List (List ℕ)) (a : Asked) (text : List ℕ) → key_data_fault (Some w) Lmk a (key_of text) ≡ None → length (opened_key w (key_of text)) ≡ scheme_parts (scheme_of text)
 unfolding key_of
 key_parts w a text h =
     whole_key w a (record { scheme = scheme_of text; bytes = bytes_of_hex (digits_of text) }) (is_whole (scheme_of text) (digits_of text)) h

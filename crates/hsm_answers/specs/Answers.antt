@@ -4,10 +4,11 @@ use Rattle.hsm_auth.specs.declared.entry.Granted.{Granted}
 use Rattle.hsm_auth.specs.declared.entry.Granted.TheVariants as granted
 use Rattle.hsm_rows.specs.declared.settings.Module.{Module}
 use Rattle.hsm_rows.specs.declared.row.Code.{Code}
-use Rattle.hsm_rows.specs.Table.{RowShape}
+use Rattle.hsm_rows.specs.Table.{RowShape, rules_of}
 use Rattle.hsm_rows.specs.Texts.{two_digits}
 use Rattle.hsm_rows.specs.Reading.{reading, ReadText, is_end, is_console}
-use Rattle.hsm_rows.specs.Rules.{AskKind, use_ask, look_ask, recent_ask, cancel_all_ask, authorise_ask, cancel_ask, rules_of}
+use Rattle.hsm_rows.specs.declared.rules.AskKind.{AskKind}
+use Rattle.hsm_rows.specs.declared.rules.AskKind.TheVariants.{UseAsk, LookAsk, RecentAsk, CancelAllAsk, AuthoriseAsk, CancelAsk}
 use Rattle.hsm_answers.specs.Values.{values, spaced}
 use Rattle.hsm_answers.specs.Checks.{check_read}
 use Rattle.hsm_answers.specs.Asks.{words_hold}
@@ -28,12 +29,12 @@ no_code code = codes "NO " ++ two_digits code
 
 -- the row authorises
 abbrev pub is_authorise : AskKind → Bool
-is_authorise authorise_ask = true
-is_authorise use_ask = false
-is_authorise look_ask = false
-is_authorise recent_ask = false
-is_authorise cancel_all_ask = false
-is_authorise cancel_ask = false
+is_authorise AuthoriseAsk = true
+is_authorise UseAsk = false
+is_authorise LookAsk = false
+is_authorise RecentAsk = false
+is_authorise CancelAllAsk = false
+is_authorise CancelAsk = false
 
 -- no more grants fit
 abbrev pub is_full : Granted → Bool

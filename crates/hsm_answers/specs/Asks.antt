@@ -9,10 +9,12 @@ use Rattle.hsm_auth.specs.declared.entry.Ask.TheVariants as ask
 use Rattle.hsm_auth.specs.Activities.{activity_of}
 use Rattle.hsm_rows.specs.declared.settings.Module.{Module}
 use Rattle.hsm_rows.specs.declared.row.Code.{Code}
-use Rattle.hsm_rows.specs.Table.{RowShape}
+use Rattle.hsm_rows.specs.Table.{RowShape, rules_of}
 use Rattle.hsm_rows.specs.Forms.{decimal_from}
 use Rattle.hsm_rows.specs.Reading.{reading, ReadText}
-use Rattle.hsm_rows.specs.Rules.{RowRules, AskKind, use_ask, look_ask, recent_ask, cancel_all_ask, authorise_ask, cancel_ask, rules_of}
+use Rattle.hsm_rows.specs.Rules.{RowRules}
+use Rattle.hsm_rows.specs.declared.rules.AskKind.{AskKind}
+use Rattle.hsm_rows.specs.declared.rules.AskKind.TheVariants.{UseAsk, LookAsk, RecentAsk, CancelAllAsk, AuthoriseAsk, CancelAsk}
 use Rattle.hsm_answers.specs.Keys.{field_text}
 use Rattle.hsm_answers.specs.Values.{word_count}
 use Rattle.hsm_answers.specs.Checks.{check_before, check_after, needs_of}
@@ -53,12 +55,12 @@ cancel (Some a) = ask.Cancel a
 
 -- the row's ask
 unfoldable pub row_ask : Module → RowRules → ReadText → AskKind → Ask
-row_ask m rules r use_ask = ask.Use (as_needs (needs_of m rules r)) (asked_words m rules r)
-row_ask m rules r look_ask = ask.Look
-row_ask m rules r recent_ask = ask.Recent
-row_ask m rules r cancel_all_ask = ask.CancelAll
-row_ask m rules r authorise_ask = if words_hold m r then authorise (activity_of (field_text r 0)) (decimal_from 0 (field_text r 1)) else empty_ask
-row_ask m rules r cancel_ask = if bytes_eq (field_text r 0) (codes "*") then ask.CancelAll else cancel (activity_of (field_text r 0))
+row_ask m rules r UseAsk = ask.Use (as_needs (needs_of m rules r)) (asked_words m rules r)
+row_ask m rules r LookAsk = ask.Look
+row_ask m rules r RecentAsk = ask.Recent
+row_ask m rules r CancelAllAsk = ask.CancelAll
+row_ask m rules r AuthoriseAsk = if words_hold m r then authorise (activity_of (field_text r 0)) (decimal_from 0 (field_text r 1)) else empty_ask
+row_ask m rules r CancelAsk = if bytes_eq (field_text r 0) (codes "*") then ask.CancelAll else cancel (activity_of (field_text r 0))
 
 -- the empty ask where a check before the entry fails
 unfoldable pub ask_read : Module → RowRules → Result ReadText Code → Ask

@@ -19,7 +19,12 @@ use Rattle.hsm_rows.specs.declared.settings.Module.{Module}
 use Rattle.hsm_rows.specs.declared.row.Secret.{Secret}
 use Rattle.hsm_nibbles.specs.Characters.{digit_value}
 use Rattle.hsm_rows.specs.Reading.{ReadText}
-use Rattle.hsm_rows.specs.Rules.{RowRules, TypeSource, ActUse, FixedNeed, DataCheck, table_check, pin_check, longer_than, shorter_than, mac_check}
+use Rattle.hsm_rows.specs.Rules.{RowRules}
+use Rattle.hsm_rows.specs.declared.rules.TypeSource.{TypeSource}
+use Rattle.hsm_rows.specs.declared.rules.ActUse.{ActUse}
+use Rattle.hsm_rows.specs.declared.rules.FixedNeed.{FixedNeed}
+use Rattle.hsm_rows.specs.declared.rules.DataCheck.{DataCheck}
+use Rattle.hsm_rows.specs.declared.rules.DataCheck.TheVariants.{TableCheck, PinCheck, LongerThan, ShorterThan, MacCheck}
 use Rattle.hsm_answers.specs.Keys.{field_text, is_absent, type_of, keys_fault, first_code}
 use Rattle.hsm_answers.specs.Pins.{digits_at, number_at, given_pin, pin_fault}
 use Rattle.hsm_answers.specs.Macs.{mac_fault}
@@ -110,11 +115,11 @@ entry_fault g = if is_refused g then Some 17 else None
 
 -- what a data check finds
 unfoldable pub data_fault : Module → RowRules → ReadText → DataCheck → Option ℕ
-data_fault m rules r (table_check k) = if table_ok (digits_at r k) then None else Some 25
-data_fault m rules r pin_check = pin_fault m rules r rules.pin
-data_fault m rules r (longer_than k) = if nat_lt (number_at r k) (length (given_pin m rules r)) then Some 24 else None
-data_fault m rules r (shorter_than k) = if nat_lt (length (given_pin m rules r)) (number_at r k) then Some 24 else None
-data_fault m rules r (mac_check f) = mac_fault r f
+data_fault m rules r (TableCheck k) = if table_ok (digits_at r k) then None else Some 25
+data_fault m rules r PinCheck = pin_fault m rules r rules.pin
+data_fault m rules r (LongerThan k) = if nat_lt (number_at r k) (length (given_pin m rules r)) then Some 24 else None
+data_fault m rules r (ShorterThan k) = if nat_lt (length (given_pin m rules r)) (number_at r k) then Some 24 else None
+data_fault m rules r (MacCheck f) = mac_fault r f
 
 -- check 8: the first data check, in the row's order, that finds something
 unfoldable pub checks_fault : Module → RowRules → ReadText → Option ℕ

@@ -13,8 +13,7 @@ use Rattle.hsm_auth.specs.declared.entry.Needs.{Needs}
 use Rattle.hsm_auth.specs.Activities.{activity, activity_of, covers}
 use Rattle.hsm_auth.specs.History.{end_of, ends, live, now}
 use Rattle.hsm_rows.specs.declared.settings.Module.{Module}
-use Rattle.hsm_rows.specs.Table.{RowShape, row_A, row_GC, row_NG}
-use Rattle.hsm_rows.specs.Rules.{rules_of}
+use Rattle.hsm_rows.specs.Table.{RowShape, row_A, row_GC, row_NG, rules_of}
 use Rattle.hsm_rows.specs.Forms.{decimal_from}
 use Rattle.hsm_rows.specs.Reading.{reading, ReadText}
 use Rattle.hsm_rows.specs.Clear.{has_clear}

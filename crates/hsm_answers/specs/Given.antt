@@ -5,13 +5,12 @@ use Rattle.hsm_auth.specs.declared.activity.Activity.{Activity}
 use Rattle.hsm_auth.specs.declared.activity.Place.TheVariants.{Host}
 use Rattle.hsm_types.specs.declared.types.Act.{Act}
 use Rattle.hsm_types.specs.declared.types.KeyType.{KeyType}
-use Rattle.hsm_types.specs.declared.types.Permit.{Permit}
 use Rattle.hsm_nibbles.specs.Characters.{digit_value}
 use Rattle.hsm_rows.specs.declared.row.Code.{Code}
 use Rattle.hsm_rows.specs.Reading.{is_end}
 use Rattle.hsm_answers.specs.declared.keys.KeyGiven.{KeyGiven}
-use Rattle.hsm_answers.specs.Keys.{KeyData, key_of, opened_key}
-use Rattle.hsm_answers.specs.Checks.{category_of, is_needed}
+use Rattle.hsm_answers.specs.Keys.{KeyData}
+use Rattle.hsm_answers.specs.Checks.{category_of}
 
 -- what the code keeps of a key text
 abbrev pub data_of : KeyGiven → KeyData
@@ -22,17 +21,9 @@ abbrev pub code_in : {K : Type 0} → Result K Code → Option ℕ
 code_in (Ok k) = None
 code_in (Err code) = Some code.0
 
--- the key of a text under w; an absent text is no key
-abbrev pub key_given : List (List ℕ) → List ℕ → Option (List (List ℕ))
-key_given w text = if is_end text then None else Some (opened_key w (key_of text))
-
 -- the activity of an act on the type, at a host
 abbrev pub host_activity : Act → KeyType → Activity
 host_activity act ty = record { category = category_of act; ty = Some ty; place = Some Host }
-
--- the need of an act: where its permit is A
-abbrev pub need_by : Permit → Act → KeyType → Option Activity
-need_by permit act ty = if is_needed permit then Some (host_activity act ty) else None
 
 -- 01 where a value is given that isn't the one that is written; letters may be of either case
 abbrev pub compared_code : List ℕ → List ℕ → Option ℕ

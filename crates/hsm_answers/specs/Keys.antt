@@ -16,10 +16,19 @@ use Rattle.hsm_lmk.specs.Opening.{refuses_scheme, is_untagged_pair}
 use Rattle.hsm_lmk.specs.Opened.{sealed, opened, all_odd}
 use Rattle.hsm_text.specs.KeyTexts.{scheme_named, scheme_of, digits_of}
 use Rattle.hsm_rows.specs.declared.settings.Module.{Module}
+use Rattle.hsm_rows.specs.declared.row.Code.{Code}
 use Rattle.hsm_answers.specs.declared.keys.Asked.{Asked}
 use Rattle.hsm_rows.specs.Forms.{text_at, is_ff}
 use Rattle.hsm_rows.specs.Reading.{ReadText, is_end}
-use Rattle.hsm_rows.specs.Rules.{RowRules, KeyCheck, TypeSource, LengthRule, Under, fixed, named, by_pair, wrapper_type, given_key, target, any_length, as_scheme, flag_plus_one, two_for_algorithm_three, lmk, key_at}
+use Rattle.hsm_rows.specs.Rules.{RowRules}
+use Rattle.hsm_rows.specs.declared.rules.KeyCheck.{KeyCheck}
+use Rattle.hsm_rows.specs.declared.rules.TypeSource.{TypeSource}
+use Rattle.hsm_rows.specs.declared.rules.LengthRule.{LengthRule}
+use Rattle.hsm_rows.specs.declared.rules.Under.{Under}
+use Rattle.hsm_rows.specs.declared.rules.TypeSource.TheVariants.{Fixed, Named, ByPair, WrapperType}
+use Rattle.hsm_rows.specs.declared.rules.KeyCheck.TheVariants.{GivenKey, Target}
+use Rattle.hsm_rows.specs.declared.rules.LengthRule.TheVariants.{AnyLength, AsScheme, FlagPlusOne, TwoForAlgorithmThree}
+use Rattle.hsm_rows.specs.declared.rules.Under.TheVariants.{Lmk, KeyAt}
 
 -- the text of field k
 abbrev pub field_text : ReadText → ℕ → List ℕ
@@ -30,8 +39,8 @@ abbrev pub is_absent : ReadText → ℕ → Bool
 is_absent r k = is_end (field_text r k)
 
 -- the LMK set of the message
-abbrev pub set_of : Module → ReadText → List (List (List ℕ))
-set_of m r = m.lmk
+abbrev pub set_of : Module → List (List (List ℕ))
+set_of m = m.lmk
 
 -- the scheme that a scheme field names
 abbrev pub scheme_at : ReadText → ℕ → Scheme
@@ -82,16 +91,16 @@ pair_type pair full = if is_ff pair then type_of_code full else type_of_code (co
 
 -- the type that the row names
 unfoldable pub type_of : ReadText → TypeSource → KeyType
-type_of r (fixed ty) = ty
-type_of r (named k) = type_of_code (field_text r k)
-type_of r (by_pair k full) = pair_type (field_text r k) (field_text r full)
-type_of r (wrapper_type k) = wrapper_of (field_text r k)
+type_of r (Fixed ty) = ty
+type_of r (Named k) = type_of_code (field_text r k)
+type_of r (ByPair k full) = pair_type (field_text r k) (field_text r full)
+type_of r (WrapperType k) = wrapper_of (field_text r k)
 
 -- the type that the row names for the key of field k
 abbrev pub source_at : ℕ → List KeyCheck → TypeSource
-source_at k [] = fixed Zmk
-source_at k (given_key j under ty wraps rule parity ∷ more) = if k == j then ty else source_at k more
-source_at k (target ty j second ∷ more) = source_at k more
+source_at k [] = Fixed Zmk
+source_at k (GivenKey j under ty wraps rule parity ∷ more) = if k == j then ty else source_at k more
+source_at k (Target ty j second ∷ more) = source_at k more
 
 -- the key that a text is under w
 abbrev pub opened_key : List (List ℕ) → Option KeyData → List (List ℕ)
@@ -100,7 +109,7 @@ opened_key w (Some k) = opened w k.scheme k.bytes
 
 -- the key of field k under the LMK pair of the type that the row names
 unfoldable pub lmk_key : Module → RowRules → ReadText → ℕ → List (List ℕ)
-lmk_key m rules r k = opened_key (wrap (set_of m r) (type_of r (source_at k rules.keys))) (key_data r k)
+lmk_key m rules r k = opened_key (wrap (set_of m) (type_of r (source_at k rules.keys))) (key_data r k)
 
 -- the key of field k under the key of field kek
 abbrev pub wrapped_key : Module → RowRules → ReadText → ℕ → ℕ → List (List ℕ)
@@ -108,10 +117,10 @@ wrapped_key m rules r k kek = opened_key (lmk_key m rules r kek) (key_data r k)
 
 -- the number of parts that a scheme field asks for
 abbrev pub parts_by_scheme : LengthRule → ReadText → Option ℕ
-parts_by_scheme any_length r = None
-parts_by_scheme (as_scheme k) r = Some (scheme_parts (scheme_at r k))
-parts_by_scheme (flag_plus_one k) r = None
-parts_by_scheme (two_for_algorithm_three k) r = None
+parts_by_scheme AnyLength r = None
+parts_by_scheme (AsScheme k) r = Some (scheme_parts (scheme_at r k))
+parts_by_scheme (FlagPlusOne k) r = None
+parts_by_scheme (TwoForAlgorithmThree k) r = None
 
 -- the number of parts of a flag: flag plus 1
 abbrev pub flag_parts : List ℕ → ℕ
@@ -119,10 +128,10 @@ flag_parts flag = if bytes_eq flag (codes "0") then 1 else if bytes_eq flag (cod
 
 -- the number of parts that a flag or an algorithm asks for
 abbrev pub parts_by_rule : LengthRule → ReadText → Option ℕ
-parts_by_rule any_length r = None
-parts_by_rule (as_scheme k) r = None
-parts_by_rule (flag_plus_one k) r = Some (flag_parts (field_text r k))
-parts_by_rule (two_for_algorithm_three k) r = if bytes_eq (field_text r k) (codes "3") then Some 2 else None
+parts_by_rule AnyLength r = None
+parts_by_rule (AsScheme k) r = None
+parts_by_rule (FlagPlusOne k) r = Some (flag_parts (field_text r k))
+parts_by_rule (TwoForAlgorithmThree k) r = if bytes_eq (field_text r k) (codes "3") then Some 2 else None
 
 -- another number of parts is asked for
 abbrev pub differs : Option ℕ → ℕ → Bool
@@ -131,8 +140,8 @@ differs (Some wanted) parts = not (parts == wanted)
 
 -- no key has this scheme there: under an LMK by the type, under another key the untagged pair
 abbrev pub scheme_fails : Under → KeyType → Scheme → Bool
-scheme_fails lmk ty s = refuses_scheme ty s
-scheme_fails (key_at kek) ty s = is_untagged_pair s
+scheme_fails Lmk ty s = refuses_scheme ty s
+scheme_fails (KeyAt kek) ty s = is_untagged_pair s
 
 -- 26 for the scheme, or for another length than that of a scheme field
 abbrev pub scheme_fault : Under → Asked → Scheme → Bool
@@ -158,8 +167,8 @@ given_fault w under a text = if a.wraps && is_end text then None else key_data_f
 
 -- what the key of a field is under, if it is there
 abbrev pub wrapping_key : Module → RowRules → ReadText → Under → KeyType → Option (List (List ℕ))
-wrapping_key m rules r lmk ty = Some (wrap (set_of m r) ty)
-wrapping_key m rules r (key_at kek) ty = if is_absent r kek then None else Some (lmk_key m rules r kek)
+wrapping_key m rules r Lmk ty = Some (wrap (set_of m) ty)
+wrapping_key m rules r (KeyAt kek) ty = if is_absent r kek then None else Some (lmk_key m rules r kek)
 
 -- two schemes of different lengths; the second may be absent
 abbrev pub lengths_differ : ReadText → ℕ → Option ℕ → Bool
@@ -167,15 +176,15 @@ lengths_differ r k None = false
 lengths_differ r k (Some j) = not (is_absent r j) && not (scheme_parts (scheme_at r k) == scheme_parts (scheme_at r j))
 
 -- what a key check asks of a given key
-abbrev pub asked : ReadText → TypeSource → Bool → LengthRule → ℕ → Asked
+abbrev pub asked : ReadText → TypeSource → Bool → LengthRule → Code → Asked
 asked r ty wraps rule parity =
-    record { ty = type_of r ty; wraps = wraps; by_scheme = parts_by_scheme rule r; by_rule = parts_by_rule rule r; parity = record { 0 = parity } }
+    record { ty = type_of r ty; wraps = wraps; by_scheme = parts_by_scheme rule r; by_rule = parts_by_rule rule r; parity = parity }
 
 -- what is wrong with a key; one to be made has 26 where the lengths of its two schemes differ, and 27 where its type doesn't allow the length
 unfoldable pub key_fault : Module → RowRules → ReadText → KeyCheck → Option ℕ
-key_fault m rules r (given_key k under ty wraps rule parity) =
+key_fault m rules r (GivenKey k under ty wraps rule parity) =
     given_fault (wrapping_key m rules r under (type_of r ty)) under (asked r ty wraps rule parity) (field_text r k)
-key_fault m rules r (target ty k second) =
+key_fault m rules r (Target ty k second) =
     if lengths_differ r k second then Some 26
     else if not (allows_length (type_of r ty) (scheme_parts (scheme_at r k))) then Some 27
     else None

@@ -9,7 +9,8 @@ use Rattle.hsm_mac.specs.Macs.{blocks_of, padded, chained, mac, fills_blocks, is
 use Rattle.hsm_nibbles.specs.Characters.{bytes_of_hex}
 use Rattle.hsm_rows.specs.declared.settings.Module.{Module}
 use Rattle.hsm_rows.specs.Reading.{ReadText, is_end}
-use Rattle.hsm_rows.specs.Rules.{RowRules, MacFields}
+use Rattle.hsm_rows.specs.Rules.{RowRules}
+use Rattle.hsm_rows.specs.declared.rules.MacFields.{MacFields}
 use Rattle.hsm_answers.specs.Keys.{field_text, is_absent, lmk_key}
 use Rattle.hsm_answers.specs.Pins.{block_at, block_text}
 

@@ -14,7 +14,9 @@ use Rattle.hsm_pinblock.specs.declared.BlockFault.TheVariants.{Control, Length, 
 use Rattle.hsm_rows.specs.declared.settings.Module.{Module}
 use Rattle.hsm_rows.specs.Forms.{two_digit_value}
 use Rattle.hsm_rows.specs.Reading.{ReadText}
-use Rattle.hsm_rows.specs.Rules.{RowRules, PinSource, no_pin, block_pin, lmk_pin, clear_pin, drawn_pin}
+use Rattle.hsm_rows.specs.Rules.{RowRules}
+use Rattle.hsm_rows.specs.declared.rules.PinSource.{PinSource}
+use Rattle.hsm_rows.specs.declared.rules.PinSource.TheVariants.{NoPin, BlockPin, LmkPin, ClearPin, DrawnPin}
 use Rattle.hsm_answers.specs.Keys.{field_text, set_of, lmk_key}
 use Rattle.hsm_answers.specs.Draws.{drawn_digits}
 
@@ -48,11 +50,11 @@ format_at r k = format_of (field_text r k)
 
 -- the account of the row's PIN
 abbrev pub pin_account : ReadText → PinSource → List ℕ
-pin_account r no_pin = []
-pin_account r (block_pin block key format account) = digits_at r account
-pin_account r (lmk_pin text account) = digits_at r account
-pin_account r (clear_pin text account) = digits_at r account
-pin_account r (drawn_pin len account) = digits_at r account
+pin_account r NoPin = []
+pin_account r (BlockPin block key format account) = digits_at r account
+pin_account r (LmkPin text account) = digits_at r account
+pin_account r (ClearPin text account) = digits_at r account
+pin_account r (DrawnPin len account) = digits_at r account
 
 -- the block that the row's PIN was sent in, deciphered
 abbrev pub sent_block : Module → RowRules → ReadText → ℕ → ℕ → ℕ
@@ -60,7 +62,7 @@ sent_block m rules r block key = deciphered (lmk_key m rules r key) (block_at r 
 
 -- the block of a PIN under the LMK, deciphered
 abbrev pub lmk_block : Module → ReadText → ℕ → ℕ
-lmk_block m r text = opened_block (set_of m r) (block_at r text)
+lmk_block m r text = opened_block (set_of m) (block_at r text)
 
 -- the clear digits before the F
 abbrev pub clear_digits : ReadText → ℕ → List ℕ
@@ -68,11 +70,11 @@ clear_digits r text = map digit_value (take_while is_ascii_digit (field_text r t
 
 -- the row's PIN; one to be drawn has its words from the place on
 unfoldable pub pin_from : Module → RowRules → ReadText → ℕ → PinSource → List ℕ
-pin_from m rules r place no_pin = []
-pin_from m rules r place (block_pin block key format account) = pin_of_block (format_at r format) (sent_block m rules r block key) (digits_at r account)
-pin_from m rules r place (lmk_pin text account) = pin_of_block F01 (lmk_block m r text) (digits_at r account)
-pin_from m rules r place (clear_pin text account) = clear_digits r text
-pin_from m rules r place (drawn_pin len account) = drawn_digits m place (number_at r len)
+pin_from m rules r place NoPin = []
+pin_from m rules r place (BlockPin block key format account) = pin_of_block (format_at r format) (sent_block m rules r block key) (digits_at r account)
+pin_from m rules r place (LmkPin text account) = pin_of_block F01 (lmk_block m r text) (digits_at r account)
+pin_from m rules r place (ClearPin text account) = clear_digits r text
+pin_from m rules r place (DrawnPin len account) = drawn_digits m place (number_at r len)
 
 -- the PIN of the row
 abbrev pub pin_of : Module → RowRules → ReadText → ℕ → List ℕ
@@ -95,11 +97,11 @@ block_fault_code (Some fault) = Some (block_code fault)
 
 -- what is wrong with the row's PIN: a block 20 or 24, a text under the LMK 14, fewer than 4 clear digits 24
 unfoldable pub pin_fault : Module → RowRules → ReadText → PinSource → Option ℕ
-pin_fault m rules r no_pin = None
-pin_fault m rules r (block_pin block key format account) = block_fault_code (blockfault (format_at r format) (sent_block m rules r block key) (digits_at r account))
-pin_fault m rules r (lmk_pin text account) = if is_some (blockfault F01 (lmk_block m r text) (digits_at r account)) then Some 14 else None
-pin_fault m rules r (clear_pin text account) = if nat_lt (length (clear_digits r text)) 4 then Some 24 else None
-pin_fault m rules r (drawn_pin len account) = None
+pin_fault m rules r NoPin = None
+pin_fault m rules r (BlockPin block key format account) = block_fault_code (blockfault (format_at r format) (sent_block m rules r block key) (digits_at r account))
+pin_fault m rules r (LmkPin text account) = if is_some (blockfault F01 (lmk_block m r text) (digits_at r account)) then Some 14 else None
+pin_fault m rules r (ClearPin text account) = if nat_lt (length (clear_digits r text)) 4 then Some 24 else None
+pin_fault m rules r (DrawnPin len account) = None
 
 -- the nibbles of fill that a block of the format with the PIN takes
 abbrev pub fill_length : Format → List ℕ → ℕ

@@ -6,8 +6,8 @@ use Rattle.hsm_auth.specs.declared.entry.Granted.{Granted}
 use Rattle.hsm_auth.specs.History.{CanAsk}
 use Rattle.hsm_rows.specs.declared.settings.Module.{Module}
 use Rattle.hsm_rows.specs.declared.row.Code.{Code}
-use Rattle.hsm_rows.specs.Table.{RowShape}
-use Rattle.hsm_rows.specs.Rules.{RowRules, rules_of}
+use Rattle.hsm_rows.specs.Table.{RowShape, rules_of}
+use Rattle.hsm_rows.specs.Rules.{RowRules}
 use Rattle.hsm_rows.specs.Texts.{two_digits}
 use Rattle.hsm_rows.specs.Reading.{ReadText, reading}
 use Rattle.hsm_answers.specs.declared.plans.Checked.{Checked}

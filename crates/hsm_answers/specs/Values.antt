@@ -19,13 +19,17 @@ use Rattle.hsm_auth.specs.declared.entry.Granted.TheVariants as granted
 use Rattle.hsm_auth.specs.Activities.{text_of}
 use Rattle.hsm_rows.specs.declared.settings.Module.{Module}
 use Rattle.hsm_rows.specs.declared.row.Secret.{Secret}
-use Rattle.hsm_rows.specs.declared.row.Secret.TheVariants.{Opened, OpenedUnder, DrawnKey, Joined, PinOf, DrawnPin, GivenPin}
+use Rattle.hsm_rows.specs.declared.row.Secret.TheVariants.{Opened, OpenedUnder, DrawnKey, Joined}
 use Rattle.hsm_rows.specs.declared.row.Public.{Public}
-use Rattle.hsm_rows.specs.declared.row.Public.TheVariants.{Given, Fixed, Sealed, SealedUnder, CheckValue, SealedPin, BlockUnder, PinLength, Pvv, Offset, Cvv, Mac, Chain, LmkCheck, LiveGrants, Hosts, Done, Cancelled, Grants, Numbers, Notes, Show}
+use Rattle.hsm_rows.specs.declared.row.Public.TheVariants.{Given, Fixed, Sealed, SealedUnder, CheckValue, SealedPin, BlockUnder, PinLength, Value, Chain, LmkCheck, LiveGrants, Hosts, Done, Cancelled, Grants, Numbers, Notes, ShowKey, ShowPin}
 use Rattle.hsm_rows.specs.Table.{Term, plain_text, term}
 use Rattle.hsm_rows.specs.Texts.{two_digits}
 use Rattle.hsm_rows.specs.Reading.{ReadText}
-use Rattle.hsm_rows.specs.Rules.{RowRules, ValueSource, Words, no_words, two_per_part, as_length, fill_of, no_value, pvv_of, offset_of, cvv_of, mac_of}
+use Rattle.hsm_rows.specs.Rules.{RowRules}
+use Rattle.hsm_rows.specs.declared.rules.ValueSource.{ValueSource}
+use Rattle.hsm_rows.specs.declared.rules.Words.{Words}
+use Rattle.hsm_rows.specs.declared.rules.Words.TheVariants.{NoWords, TwoPerPart, AsLength, FillOf}
+use Rattle.hsm_rows.specs.declared.rules.ValueSource.TheVariants.{NoValue, PvvOf, OffsetOf, CvvOf, MacOf}
 use Rattle.hsm_answers.specs.Keys.{field_text, is_absent, set_of, scheme_at, type_of, lmk_key, wrapped_key, key_text}
 use Rattle.hsm_answers.specs.Draws.{drawn_key, drawn_fill}
 use Rattle.hsm_answers.specs.Pins.{digits_at, block_text, number_at, format_at, pin_of, given_pin, pin_account, fill_length}
@@ -67,7 +71,7 @@ made_parts rules r = scheme_parts (made_scheme rules r)
 
 -- the key of the components: their exclusive-or, adjusted to odd parity
 unfoldable pub joined_key : RowRules → ReadText → List (List ℕ)
-joined_key rules r = parts_of_bytes (made_parts rules r) (adjusted (joined_bytes r rules.made.components))
+joined_key rules r = parts_of_bytes (made_parts rules r) (adjusted (joined_bytes r rules.components))
 
 -- the key that a secret is; a drawn one has its words from the place on
 unfoldable pub secret_key : Module → RowRules → ReadText → ℕ → Secret → List (List ℕ)
@@ -75,23 +79,18 @@ secret_key m rules r place (Opened k) = lmk_key m rules r k
 secret_key m rules r place (OpenedUnder k kek) = wrapped_key m rules r k kek
 secret_key m rules r place DrawnKey = drawn_key m place (made_parts rules r)
 secret_key m rules r place Joined = joined_key rules r
-secret_key m rules r place (PinOf k) = []
-secret_key m rules r place DrawnPin = []
-secret_key m rules r place (GivenPin k) = []
 
 -- digits with F to 12 characters
 abbrev pub filled_to_twelve : List ℕ → List ℕ
 filled_to_twelve digits = map hex_character (digits ++ replicate (12 - length digits) 15)
 
--- a secret in the clear: a key in hexadecimal, a PIN with F to 12 characters
-unfoldable pub shown : Module → RowRules → ReadText → ℕ → Secret → List ℕ
-shown m rules r place (Opened k) = hex_of_bytes (key_bytes (lmk_key m rules r k))
-shown m rules r place (OpenedUnder k kek) = hex_of_bytes (key_bytes (wrapped_key m rules r k kek))
-shown m rules r place DrawnKey = hex_of_bytes (key_bytes (drawn_key m place (made_parts rules r)))
-shown m rules r place Joined = hex_of_bytes (key_bytes (joined_key rules r))
-shown m rules r place (PinOf k) = filled_to_twelve (pin_of m rules r place)
-shown m rules r place DrawnPin = filled_to_twelve (pin_of m rules r place)
-shown m rules r place (GivenPin k) = filled_to_twelve (pin_of m rules r place)
+-- a key in the clear, in hexadecimal
+unfoldable pub shown_key : Module → RowRules → ReadText → ℕ → Secret → List ℕ
+shown_key m rules r place s = hex_of_bytes (key_bytes (secret_key m rules r place s))
+
+-- the row's PIN in the clear, with F to 12 characters
+unfoldable pub shown_pin : Module → RowRules → ReadText → ℕ → List ℕ
+shown_pin m rules r place = filled_to_twelve (pin_of m rules r place)
 
 -- a character of the validation data: the last 5 account digits stand for N
 abbrev pub validation_digit : List ℕ → ℕ → List ℕ
@@ -119,37 +118,34 @@ index_at r k = block_of (digits_at r k)
 
 -- the row's value of its PIN or data, as it is written
 unfoldable pub row_value : Module → RowRules → ReadText → ValueSource → List ℕ
-row_value m rules r no_value = []
-row_value m rules r (pvv_of pair index) =
+row_value m rules r NoValue = []
+row_value m rules r (PvvOf pair index) =
     map hex_character (pvv (first_part (lmk_key m rules r pair)) (second_part (lmk_key m rules r pair)) (pin_account r rules.pin) (index_at r index) (given_pin m rules r))
-row_value m rules r (offset_of pvk table validation check) =
+row_value m rules r (OffsetOf pvk table validation check) =
     map hex_character (offset (natural_pin (lmk_key m rules r pvk) (digits_at r table) (validation_block (field_text r validation) (pin_account r rules.pin))) (given_pin m rules r) (number_at r check))
-row_value m rules r (cvv_of pair pan expiry service) =
+row_value m rules r (CvvOf pair pan expiry service) =
     map hex_character (cvv (first_part (lmk_key m rules r pair)) (second_part (lmk_key m rules r pair)) (pan_digits r pan) (digits_at r expiry) (digits_at r service))
-row_value m rules r (mac_of f) = if ends_message r f then mac_text m rules r f else []
+row_value m rules r (MacOf f) = if ends_message r f then mac_text m rules r f else []
 
 -- the chaining value, in modes 1 and 2
 unfoldable pub chain_value : Module → RowRules → ReadText → ValueSource → List ℕ
-chain_value m rules r (mac_of f) = if ends_message r f then [] else chain_text m rules r f
-chain_value m rules r no_value = []
-chain_value m rules r (pvv_of pair index) = []
-chain_value m rules r (offset_of pvk table validation check) = []
-chain_value m rules r (cvv_of pair pan expiry service) = []
+chain_value m rules r (MacOf f) = if ends_message r f then [] else chain_text m rules r f
+chain_value m rules r NoValue = []
+chain_value m rules r (PvvOf pair index) = []
+chain_value m rules r (OffsetOf pvk table validation check) = []
+chain_value m rules r (CvvOf pair pan expiry service) = []
 
 -- the random words of a message whose checks all pass
 unfoldable pub word_count : Module → RowRules → ReadText → Words → ℕ
-word_count m rules r no_words = 0
-word_count m rules r (two_per_part k) = 2 * scheme_parts (scheme_at r k)
-word_count m rules r (as_length k) = number_at r k
-word_count m rules r (fill_of k) = fill_length (format_at r k) (given_pin m rules r)
+word_count m rules r NoWords = 0
+word_count m rules r (TwoPerPart k) = 2 * scheme_parts (scheme_at r k)
+word_count m rules r (AsLength k) = number_at r k
+word_count m rules r (FillOf k) = fill_length (format_at r k) (given_pin m rules r)
 
--- the block of the PIN in the second format, its fill drawn from the place on
-abbrev pub translated_block : Module → RowRules → ReadText → ℕ → Words → ℕ
-translated_block m rules r place (fill_of k) =
+-- the block of the PIN in the format that field k names, its fill drawn from the place on
+abbrev pub translated_block : Module → RowRules → ReadText → ℕ → ℕ → ℕ
+translated_block m rules r place k =
     block_of_pin (format_at r k) (given_pin m rules r) (pin_account r rules.pin) (drawn_fill m (format_at r k) place (fill_length (format_at r k) (given_pin m rules r)))
-translated_block m rules r place no_words = 0
-translated_block m rules r place (two_per_part k) = 0
-translated_block m rules r place (as_length k) = 0
 
 -- the letter of a note's kind
 abbrev pub kind_letter : Kind → List ℕ
@@ -226,20 +222,17 @@ numbers_text (granted.Recent notes) = []
 unfoldable pub value_of : Module → RowRules → ReadText → Granted → Public → List ℕ
 value_of m rules r g (Given k) = field_text r k
 value_of m rules r g (Fixed text) = text.now
-value_of m rules r g (Sealed s) = key_text (wrap (set_of m r) (type_of r rules.made.ty)) (made_scheme rules r) (secret_key m rules r (first_of g) s)
+value_of m rules r g (Sealed s) = key_text (wrap (set_of m) (type_of r rules.made.ty)) (made_scheme rules r) (secret_key m rules r (first_of g) s)
 value_of m rules r g (SealedUnder s kek) =
     if is_absent r kek || is_absent r rules.made.wrap_scheme then []
     else key_text (lmk_key m rules r kek) (scheme_at r rules.made.wrap_scheme) (secret_key m rules r (first_of g) s)
 value_of m rules r g (CheckValue s) = check_value (secret_key m rules r (first_of g) s)
-value_of m rules r g (SealedPin s) = block_text (sealed_pin (set_of m r) (pin_of m rules r (first_of g)) (pin_account r rules.pin))
-value_of m rules r g (BlockUnder pin key) = block_text (enciphered (lmk_key m rules r key) (translated_block m rules r (first_of g) rules.words))
-value_of m rules r g (PinLength s) = two_digits (length (pin_of m rules r (first_of g)))
-value_of m rules r g Pvv = row_value m rules r rules.value
-value_of m rules r g Offset = row_value m rules r rules.value
-value_of m rules r g Cvv = row_value m rules r rules.value
-value_of m rules r g Mac = row_value m rules r rules.value
+value_of m rules r g SealedPin = block_text (sealed_pin (set_of m) (pin_of m rules r (first_of g)) (pin_account r rules.pin))
+value_of m rules r g (BlockUnder format key) = block_text (enciphered (lmk_key m rules r key) (translated_block m rules r (first_of g) format))
+value_of m rules r g PinLength = two_digits (length (pin_of m rules r (first_of g)))
+value_of m rules r g Value = row_value m rules r rules.value
 value_of m rules r g Chain = chain_value m rules r rules.value
-value_of m rules r g LmkCheck = block_text (lmk_check (set_of m r))
+value_of m rules r g LmkCheck = block_text (lmk_check (set_of m))
 value_of m rules r g LiveGrants = two_digits (length (live_of g))
 value_of m rules r g Hosts = two_digits m.hosts
 value_of m rules r g Done = []
@@ -247,7 +240,8 @@ value_of m rules r g Cancelled = decimal (cancelled_of g)
 value_of m rules r g Grants = counted (map grant_text (live_of g))
 value_of m rules r g Numbers = numbers_text g
 value_of m rules r g Notes = counted (map note_text (notes_of g))
-value_of m rules r g (Show s) = shown m rules r (first_of g) s
+value_of m rules r g (ShowKey s) = shown_key m rules r (first_of g) s
+value_of m rules r g ShowPin = shown_pin m rules r (first_of g)
 
 -- the value of a reply field
 abbrev pub value : Module → RowRules → ReadText → Granted → Term → List ℕ

@@ -17,7 +17,7 @@ use hsm_rows::{Code, digit};
 use hsm_text::Reply;
 
 /// The values of N characters, as those of hexadecimal digits of either case.
-pub fn digit_values<const N: usize>(text: &[u8]) -> [u8; N]
+fn digit_values<const N: usize>(text: &[u8]) -> [u8; N]
     requires { length text.now ≡ N }
     ensures { result ≡ map digit_value text.now }
 {

@@ -7,11 +7,11 @@ ghost use Rattle.hsm_types.specs.Schemes.{scheme_parts};
 ghost use Rattle.hsm_nibbles.specs.Characters.{bytes_of_hex};
 ghost use Rattle.hsm_text.specs.KeyTexts.{scheme_named, scheme_of};
 ghost use Rattle.hsm_lmk.specs.Sealing.{wrap};
-ghost use Rattle.hsm_rows.specs.Rules.{lmk, key_at};
+ghost use Rattle.hsm_rows.specs.declared.rules.Under.TheVariants.{Lmk, KeyAt};
 ghost use Rattle.hsm_answers.specs.Keys.{key_of, differs, scheme_fault, length_fault, key_data_fault, given_fault, opened_key, type_of_code, wrapper_of, pair_type, flag_parts};
 ghost use Rattle.hsm_answers.specs.Checks.{repeats_part};
 ghost use Rattle.hsm_answers.specs.Values.{first_part, second_part};
-ghost use Rattle.hsm_answers.specs.Given.{data_of, code_in, key_given};
+ghost use Rattle.hsm_answers.specs.Given.{data_of, code_in};
 
 use arrayvec::ArrayVec;
 use hsm_lmk::{LmkSet, OpenFault, open, open_under};
@@ -111,7 +111,7 @@ fn differs(wanted: Option<usize>, parts: usize) -> bool
 #[tactic(auto, using(crate::proofs::Lengths::opened_length), unfolding(crate::specs::Keys::key_data_fault, hsm_lmk::specs::Opened::open_answer))]
 fn check_under_lmk(set: &LmkSet, asked: &Asked, given: &KeyGiven) -> Result<Key, Code>
     requires { length given.now.bytes.items ≡ 8 * scheme_parts given.now.scheme }
-    ensures fault { code_in result ≡ key_data_fault (Some (wrap set.now asked.now.ty)) lmk asked.now (Some (data_of given.now)) }
+    ensures fault { code_in result ≡ key_data_fault (Some (wrap set.now asked.now.ty)) Lmk asked.now (Some (data_of given.now)) }
     ensures key { IfOk result (λ key. key ≡ opened_key (wrap set.now asked.now.ty) (Some (data_of given.now))) }
     ensures long { IfOk result (λ key. asked.now.wraps ≡ true → 2 ≤ length key) }
     ensures scheme { IfOk result (λ key. IfSome asked.now.by_scheme (λ n. length key ≡ n)) }
@@ -134,7 +134,7 @@ fn check_under_lmk(set: &LmkSet, asked: &Asked, given: &KeyGiven) -> Result<Key,
 fn check_under_key(kek: &Key, at: u8, asked: &Asked, given: &KeyGiven) -> Result<Key, Code>
     requires kek { 2 ≤ length kek.now }
     requires whole { length given.now.bytes.items ≡ 8 * scheme_parts given.now.scheme }
-    ensures fault { code_in result ≡ key_data_fault (Some kek.now) (key_at at) asked.now (Some (data_of given.now)) }
+    ensures fault { code_in result ≡ key_data_fault (Some kek.now) (KeyAt at) asked.now (Some (data_of given.now)) }
     ensures key { IfOk result (λ key. key ≡ opened_key kek.now (Some (data_of given.now))) }
     ensures scheme { IfOk result (λ key. IfSome asked.now.by_scheme (λ n. length key ≡ n)) }
 {
@@ -157,7 +157,7 @@ fn check_under_key(kek: &Key, at: u8, asked: &Asked, given: &KeyGiven) -> Result
 /// 15 for a text that is no key text, which no field that reads has.
 #[tactic(auto, unfolding(crate::specs::Keys::key_data_fault))]
 pub fn check_lmk_key(set: &LmkSet, asked: &Asked, text: &[u8]) -> Result<Key, Code>
-    ensures fault { code_in result ≡ key_data_fault (Some (wrap set.now asked.now.ty)) lmk asked.now (key_of text.now) }
+    ensures fault { code_in result ≡ key_data_fault (Some (wrap set.now asked.now.ty)) Lmk asked.now (key_of text.now) }
     ensures key { IfOk result (λ key. key ≡ opened_key (wrap set.now asked.now.ty) (key_of text.now)) }
     ensures long { IfOk result (λ key. asked.now.wraps ≡ true → 2 ≤ length key) }
     ensures scheme { IfOk result (λ key. IfSome asked.now.by_scheme (λ n. length key ≡ n)) }
@@ -168,8 +168,8 @@ pub fn check_lmk_key(set: &LmkSet, asked: &Asked, text: &[u8]) -> Result<Key, Co
     }
 }
 
-// The two parts of a key as keys.
-fn pair_of(key: &Key) -> KeyPair
+/// The two parts of a key as keys.
+pub fn pair_of(key: &Key) -> KeyPair
     requires { length key.now ≡ 2 }
     ensures first { result.first ≡ first_part key.now }
     ensures second { result.second ≡ second_part key.now }
@@ -182,45 +182,12 @@ fn pair_of(key: &Key) -> KeyPair
     }
 }
 
-/// The pair of keys of a key text of two parts under the LMK pair of its type, or the first code that holds of the
-/// text, as [`check_lmk_key`] tells it.
-pub fn check_key_pair(set: &LmkSet, asked: &Asked, text: &[u8]) -> Result<KeyPair, Code>
-    requires { scheme_parts (scheme_of text.now) ≡ 2 }
-    ensures fault { code_in result ≡ key_data_fault (Some (wrap set.now asked.now.ty)) lmk asked.now (key_of text.now) }
-    ensures first { IfOk result (λ pair. pair.first ≡ first_part (opened_key (wrap set.now asked.now.ty) (key_of text.now))) }
-    ensures second { IfOk result (λ pair. pair.second ≡ second_part (opened_key (wrap set.now asked.now.ty) (key_of text.now))) }
-    ensures first_part { IfOk result (λ pair. length pair.first ≡ 1) }
-    ensures second_part { IfOk result (λ pair. length pair.second ≡ 1) }
-{
-    match check_lmk_key(set, asked, text) {
-        Ok(key) => Ok(pair_of(&key)),
-        Err(code) => Err(code),
-    }
-}
-
-/// The wrapping key of a text under the LMK pair of its type, or the first code that holds of it. An absent text is no
-/// key and has no fault.
-pub fn check_wrapping_key(set: &LmkSet, asked: &Asked, text: &[u8]) -> Result<Option<Key>, Code>
-    requires { asked.now.wraps ≡ true }
-    ensures fault { code_in result ≡ given_fault (Some (wrap set.now asked.now.ty)) lmk asked.now text.now }
-    ensures key { IfOk result (λ key. key ≡ key_given (wrap set.now asked.now.ty) text.now) }
-    ensures long { IfOk result (λ key. IfSome key (λ k. 2 ≤ length k)) }
-{
-    if text.is_empty() {
-        return Ok(None);
-    }
-    match check_lmk_key(set, asked, text) {
-        Ok(key) => Ok(Some(key)),
-        Err(code) => Err(code),
-    }
-}
-
 /// The key of a text under a wrapping key, that of field `at`, or the first code that holds of it: 26, 27, the parity
 /// code. 15 for a text that is no key text, which no field that reads has.
 #[tactic(auto, unfolding(crate::specs::Keys::key_data_fault))]
 pub fn check_wrapped_key(kek: &Key, at: u8, asked: &Asked, text: &[u8]) -> Result<Key, Code>
     requires { 2 ≤ length kek.now }
-    ensures fault { code_in result ≡ key_data_fault (Some kek.now) (key_at at) asked.now (key_of text.now) }
+    ensures fault { code_in result ≡ key_data_fault (Some kek.now) (KeyAt at) asked.now (key_of text.now) }
     ensures key { IfOk result (λ key. key ≡ opened_key kek.now (key_of text.now)) }
     ensures scheme { IfOk result (λ key. IfSome asked.now.by_scheme (λ n. length key ≡ n)) }
 {

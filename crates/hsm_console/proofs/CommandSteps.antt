@@ -5,12 +5,12 @@ use Rattle.hsm_auth.specs.declared.entry.Ask.{Ask}
 use Rattle.hsm_auth.specs.declared.entry.Granted.{Granted}
 use Rattle.hsm_rows.specs.declared.settings.Module.{Module}
 use Rattle.hsm_rows.specs.declared.row.Row.{Row}
-use Rattle.hsm_rows.specs.Table.{RowShape, shape_of, IsConsoleRow, row_A, row_C, row_VA, row_Q, row_LOG, row_GC, row_FK}
-use Rattle.hsm_rows.specs.Rules.{RowRules, rules_of, console_rules, rules_A, rules_C, rules_VA, rules_Q, rules_LOG, rules_GC, rules_FK}
+use Rattle.hsm_rows.specs.Table.{RowShape, shape_of, IsConsoleRow, row_A, row_C, row_VA, row_Q, row_LOG, row_GC, row_FK, rules_of}
+use Rattle.hsm_rows.specs.Rules.{RowRules, rules_A, rules_C, rules_LOG, rules_GC, rules_FK}
 use Rattle.hsm_rows.specs.Reading.{ReadText, reading, is_console}
 use Rattle.hsm_rows.specs.ConsoleStanding.{AuthorisationStands, ComponentsStand}
 use Rattle.hsm_answers.specs.Keys.{keys_fault, type_of}
-use Rattle.hsm_answers.specs.Values.{values, value_of, secret_key, shown}
+use Rattle.hsm_answers.specs.Values.{values, value_of, secret_key, shown_key}
 use Rattle.hsm_answers.specs.Checks.{check_before, permit_fault, parts_fault, check_after, checks_fault, compared_fault}
 use Rattle.hsm_answers.specs.Asks.{row_ask}
 use Rattle.hsm_console.specs.declared.command.Command.{Command}
@@ -38,7 +38,7 @@ console_row = each (λ row. is_console row ≡ true) (record { a = refl; c = ref
 
 -- what the row asks beyond its forms
 pub rules_are : (command : Command) → rules_of (row_by command) ≡ rules_by command
-unfolding rules_of console_rules row_A row_C row_VA row_Q row_LOG row_GC row_FK
+unfolding row_A row_C row_VA row_Q row_LOG row_GC row_FK
 rules_are Authorise = refl
 rules_are Cancel = refl
 rules_are Grants = refl
@@ -49,7 +49,7 @@ rules_are Join = refl
 
 -- there is no check after the entry
 no_late : (m : Module) (r : ReadText) (command : Command) → check_after m (rules_by command) r ≡ None
-unfolding check_after checks_fault compared_fault rules_A rules_C rules_VA rules_Q rules_LOG rules_GC rules_FK
+unfolding check_after checks_fault compared_fault rules_A rules_C rules_LOG rules_GC rules_FK
 no_late m r Authorise = refl
 no_late m r Cancel = refl
 no_late m r Grants = refl
@@ -61,7 +61,7 @@ no_late m r Join = refl
 -- the values of the row's terms are those of the reply fields
 values_are : (m : Module) (r : ReadText) (g : Granted) (command : Command)
     → values m (rules_by command) r g (row_by command).terms ≡ made_values m (fields_by command m r) g
-unfolding row_A row_C row_VA row_Q row_LOG row_GC row_FK rules_A rules_C rules_VA rules_Q rules_LOG rules_GC rules_FK value_of secret_key shown type_of
+unfolding row_A row_C row_VA row_Q row_LOG row_GC row_FK rules_A rules_C rules_LOG rules_GC rules_FK value_of secret_key shown_key type_of
 values_are m r g Authorise = refl
 values_are m r g Cancel = refl
 values_are m r g Grants = refl
@@ -72,7 +72,7 @@ values_are m r g Join = refl
 
 -- no check before the entry of an authorisation fails, and no other text has words
 pub failed_words : (m : Module) (r : ReadText) (command : Command) (code : ℕ) → Some code ≡ check_before m (rules_by command) r → false ≡ refuses_words m (rules_by command) r
-unfolding check_before keys_fault permit_fault parts_fault rules_A rules_C rules_VA rules_Q rules_LOG rules_GC rules_FK
+unfolding check_before keys_fault permit_fault parts_fault rules_A rules_C rules_LOG rules_GC rules_FK
 failed_words m r Authorise code h = let z : ⊥ = cc in absurd z
 failed_words m r Cancel code h = refl
 failed_words m r Grants code h = refl

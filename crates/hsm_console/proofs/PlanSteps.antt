@@ -6,8 +6,7 @@ use Rattle.hsm_auth.specs.declared.entry.Granted.{Granted}
 use Rattle.hsm_rows.specs.declared.settings.Module.{Module}
 use Rattle.hsm_rows.specs.declared.row.Code.{Code}
 use Rattle.hsm_rows.specs.declared.row.Field.{Field}
-use Rattle.hsm_rows.specs.Table.{RowShape}
-use Rattle.hsm_rows.specs.Rules.{rules_of}
+use Rattle.hsm_rows.specs.Table.{RowShape, rules_of}
 use Rattle.hsm_rows.specs.Reading.{reading, ReadText, Reads, at_end, one_more, RowReads, is_trailer, is_console}
 use Rattle.hsm_answers.specs.declared.plans.Checked.{Checked}
 use Rattle.hsm_answers.specs.declared.plans.Checked.TheVariants.{Unread, Failed, Passed}

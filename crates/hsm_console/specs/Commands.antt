@@ -4,8 +4,9 @@ use Rattle.std.specs.Str.{bytes_eq}
 use Rattle.hsm_lmk.specs.Sealing.{wrap}
 use Rattle.hsm_rows.specs.declared.settings.Module.{Module}
 use Rattle.hsm_rows.specs.declared.row.Code.{Code}
-use Rattle.hsm_rows.specs.Table.{RowShape, row_A, row_C, row_VA, row_Q, row_LOG, row_GC, row_FK}
-use Rattle.hsm_rows.specs.Rules.{RowRules, named, rules_of, rules_A, rules_C, rules_VA, rules_Q, rules_LOG, rules_GC, rules_FK}
+use Rattle.hsm_rows.specs.Table.{RowShape, row_A, row_C, row_VA, row_Q, row_LOG, row_GC, row_FK, rules_of}
+use Rattle.hsm_rows.specs.Rules.{RowRules, looks, rules_A, rules_C, rules_LOG, rules_GC, rules_FK}
+use Rattle.hsm_rows.specs.declared.rules.TypeSource.TheVariants.{Named}
 use Rattle.hsm_rows.specs.Reading.{ReadText}
 use Rattle.hsm_rows.specs.ConsoleStanding.{AuthorisationStands, ComponentsStand}
 use Rattle.hsm_answers.specs.Keys.{set_of, scheme_at, type_of}
@@ -43,15 +44,15 @@ row_by Join = row_FK
 abbrev pub rules_by : Command → RowRules
 rules_by Authorise = rules_A
 rules_by Cancel = rules_C
-rules_by Grants = rules_VA
-rules_by Numbers = rules_Q
+rules_by Grants = looks
+rules_by Numbers = looks
 rules_by Notes = rules_LOG
 rules_by Draw = rules_GC
 rules_by Join = rules_FK
 
 -- the LMK pair of the type that the first field names, with the scheme of the second
 abbrev pub sealing : Module → ReadText → Sealing
-sealing m r = record { pair = wrap (set_of m r) (type_of r (named 0)); scheme = scheme_at r 1 }
+sealing m r = record { pair = wrap (set_of m) (type_of r (Named 0)); scheme = scheme_at r 1 }
 
 -- its reply fields
 abbrev pub fields_by : Command → Module → ReadText → ConsoleFields

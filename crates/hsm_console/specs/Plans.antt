@@ -4,9 +4,8 @@ use Rattle.hsm_auth.specs.declared.entry.Ask.{Ask}
 use Rattle.hsm_auth.specs.declared.entry.Granted.{Granted}
 use Rattle.hsm_rows.specs.declared.settings.Module.{Module}
 use Rattle.hsm_rows.specs.declared.row.Code.{Code}
-use Rattle.hsm_rows.specs.Table.{RowShape, shape_of, IsConsoleRow}
+use Rattle.hsm_rows.specs.Table.{RowShape, shape_of, IsConsoleRow, rules_of}
 use Rattle.hsm_rows.specs.Reading.{reading, ReadText}
-use Rattle.hsm_rows.specs.Rules.{rules_of}
 use Rattle.hsm_answers.specs.declared.plans.Checked.{Checked}
 use Rattle.hsm_answers.specs.Values.{values}
 use Rattle.hsm_answers.specs.Answers.{no_code, is_full}

@@ -4,7 +4,8 @@ ghost use Rattle.std.specs.Str.{bytes_eq};
 ghost use Rattle.sha2.specs.Sha256.{sha256};
 ghost use Rattle.hsm_auth.specs.History.{CanAsk};
 ghost use Rattle.hsm_rows.specs.declared.settings.Module.{Module};
-ghost use Rattle.hsm_rows.specs.Rules.{rules_A, rules_C, authorise_ask, cancel_ask};
+ghost use Rattle.hsm_rows.specs.Rules.{rules_A, rules_C};
+ghost use Rattle.hsm_rows.specs.declared.rules.AskKind.TheVariants.{AuthoriseAsk, CancelAsk};
 ghost use Rattle.hsm_rows.specs.Reading.{read_text_of};
 ghost use Rattle.hsm_rows.specs.ConsoleStanding.{AuthorisationStands};
 ghost use Rattle.hsm_answers.specs.Asks.{row_ask, words_hold, are_digests};
@@ -35,7 +36,7 @@ fn have_digests(digests: [[u8; 32]; 2], first: &[u8], second: &[u8]) -> bool
 #[tactic(auto, unfolding(hsm_answers::specs::Asks::row_ask, hsm_answers::specs::Asks::words_hold))]
 pub(crate) fn authorised(module: &Module, fields: &Fields<'_>) -> Passed
     requires { AuthorisationStands (read_text_of fields.now) }
-    ensures ask { result.ask ≡ row_ask «module».now rules_A (read_text_of fields.now) authorise_ask }
+    ensures ask { result.ask ≡ row_ask «module».now rules_A (read_text_of fields.now) AuthoriseAsk }
     ensures may { CanAsk result.ask }
     ensures words { result.words_refused ≡ not (words_hold «module».now (read_text_of fields.now)) }
     ensures fields { result.fields ≡ Done }
@@ -63,7 +64,7 @@ pub(crate) fn authorised(module: &Module, fields: &Fields<'_>) -> Passed
 // What a cancellation has.
 #[tactic(auto, unfolding(hsm_answers::specs::Asks::row_ask))]
 pub(crate) fn cancelled(fields: &Fields<'_>) -> Passed
-    ensures ask { (m : Module) → result.ask ≡ row_ask m rules_C (read_text_of fields.now) cancel_ask }
+    ensures ask { (m : Module) → result.ask ≡ row_ask m rules_C (read_text_of fields.now) CancelAsk }
     ensures may { CanAsk result.ask }
     ensures rest { result ≡ record { ask = result.ask; words_refused = false; fields = Cancelled } }
 {

@@ -62,7 +62,7 @@ pub(crate) fn command_of(row: &Row) -> Command
 }
 
 // What a command's text has, or the code of the first check before its entry that fails.
-#[tactic(auto, unfolding(hsm_answers::specs::Checks::check_before, hsm_answers::specs::Checks::permit_fault, hsm_answers::specs::Checks::parts_fault, hsm_answers::specs::Keys::keys_fault, hsm_answers::specs::Asks::row_ask, hsm_rows::specs::Rules::rules_A, hsm_rows::specs::Rules::rules_C, hsm_rows::specs::Rules::rules_VA, hsm_rows::specs::Rules::rules_Q, hsm_rows::specs::Rules::rules_LOG, hsm_rows::specs::Rules::rules_GC, hsm_rows::specs::Rules::rules_FK))]
+#[tactic(auto, unfolding(hsm_answers::specs::Checks::check_before, hsm_answers::specs::Checks::permit_fault, hsm_answers::specs::Checks::parts_fault, hsm_answers::specs::Keys::keys_fault, hsm_answers::specs::Asks::row_ask, hsm_rows::specs::Rules::rules_A, hsm_rows::specs::Rules::rules_C, hsm_rows::specs::Rules::rules_LOG, hsm_rows::specs::Rules::rules_GC, hsm_rows::specs::Rules::rules_FK))]
 pub(crate) fn check(module: &Module, command: Command, fields: &Fields<'_>) -> Result<Passed, Code>
     requires { TextsStand command (read_text_of fields.now) }
     ensures fault { code_in result ≡ check_before «module».now (rules_by command) (read_text_of fields.now) }

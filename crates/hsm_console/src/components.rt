@@ -1,7 +1,8 @@
 //! Components that are drawn, and keys that are formed from components.
 ghost use Rattle.std.specs.Prelude.{◌≡◌, false, IfOk};
 ghost use Rattle.hsm_auth.specs.History.{CanAsk};
-ghost use Rattle.hsm_rows.specs.Rules.{rules_GC, rules_FK, use_ask};
+ghost use Rattle.hsm_rows.specs.Rules.{rules_GC, rules_FK};
+ghost use Rattle.hsm_rows.specs.declared.rules.AskKind.TheVariants.{UseAsk};
 ghost use Rattle.hsm_rows.specs.Reading.{read_text_of};
 ghost use Rattle.hsm_rows.specs.ConsoleStanding.{ComponentsStand};
 ghost use Rattle.hsm_answers.specs.Given.{code_in};
@@ -42,7 +43,7 @@ fn component_ask(ty: KeyType, words: u16) -> Ask
 #[tactic(auto, unfolding(hsm_answers::specs::Checks::check_before, hsm_answers::specs::Checks::permit_fault, hsm_answers::specs::Checks::parts_fault, hsm_answers::specs::Checks::needs_of, hsm_answers::specs::Checks::check_after, hsm_answers::specs::Checks::checks_fault, hsm_answers::specs::Checks::compared_fault, hsm_answers::specs::Keys::keys_fault, hsm_answers::specs::Keys::key_fault, hsm_answers::specs::Keys::type_of, hsm_answers::specs::Asks::row_ask, hsm_answers::specs::Asks::asked_words, hsm_answers::specs::Values::word_count, hsm_rows::specs::Rules::rules_GC))]
 pub(crate) fn check_draw(module: &Module, fields: &Fields<'_>) -> Result<Passed, Code>
     ensures fault { code_in result ≡ check_before «module».now rules_GC (read_text_of fields.now) }
-    ensures ask { IfOk result (λ p. p.ask ≡ row_ask «module».now rules_GC (read_text_of fields.now) use_ask) }
+    ensures ask { IfOk result (λ p. p.ask ≡ row_ask «module».now rules_GC (read_text_of fields.now) UseAsk) }
     ensures may { IfOk result (λ p. CanAsk p.ask) }
     ensures words { IfOk result (λ p. p.words_refused ≡ false) }
     ensures fields { IfOk result (λ p. p.fields ≡ fields_by Draw «module».now (read_text_of fields.now)) }
@@ -70,7 +71,7 @@ pub(crate) fn check_draw(module: &Module, fields: &Fields<'_>) -> Result<Passed,
 pub(crate) fn check_join(module: &Module, fields: &Fields<'_>) -> Result<Passed, Code>
     requires { ComponentsStand (read_text_of fields.now) }
     ensures fault { code_in result ≡ check_before «module».now rules_FK (read_text_of fields.now) }
-    ensures ask { IfOk result (λ p. p.ask ≡ row_ask «module».now rules_FK (read_text_of fields.now) use_ask) }
+    ensures ask { IfOk result (λ p. p.ask ≡ row_ask «module».now rules_FK (read_text_of fields.now) UseAsk) }
     ensures may { IfOk result (λ p. CanAsk p.ask) }
     ensures words { IfOk result (λ p. p.words_refused ≡ false) }
     ensures fields { IfOk result (λ p. p.fields ≡ fields_by Join «module».now (read_text_of fields.now)) }

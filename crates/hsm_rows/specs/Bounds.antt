@@ -1,7 +1,6 @@
 -- How much a row has.
 use Rattle.std.specs.Prelude.{Bool, ◌+◌, nat_le, length}
-use Rattle.hsm_rows.specs.Table.{RowShape}
-use Rattle.hsm_rows.specs.Rules.{rules_of}
+use Rattle.hsm_rows.specs.Table.{RowShape, rules_of}
 
 -- at most 12 fields
 abbrev pub has_few_fields : RowShape → Bool

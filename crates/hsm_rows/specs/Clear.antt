@@ -2,13 +2,15 @@
 use Rattle.std.specs.Prelude.{◌≡◌, ℕ, ◌+◌, Bool, true, false, if◌then◌else◌, List, [], ◌∷◌, map, filter}
 use Rattle.std.specs.List.{list_any}
 use Rattle.hsm_rows.specs.declared.row.Public.{Public}
-use Rattle.hsm_rows.specs.declared.row.Public.TheVariants.{Show}
-use Rattle.hsm_rows.specs.Table.{RowShape, Term, plain_text, term, all_rows, row_NG, row_GC}
-use Rattle.hsm_rows.specs.Rules.{rules_of, named, pin_clear_at_host, component_at_console}
+use Rattle.hsm_rows.specs.declared.row.Public.TheVariants.{ShowKey, ShowPin}
+use Rattle.hsm_rows.specs.Table.{RowShape, Term, plain_text, term, all_rows, row_NG, row_GC, rules_of}
+use Rattle.hsm_rows.specs.Rules.{pin_clear_at_host, component_at_console}
+use Rattle.hsm_rows.specs.declared.rules.TypeSource.TheVariants.{Named}
 
 -- whether a reply field shows a secret in the clear
 abbrev pub shows : Public → Bool
-shows (Show secret) = true
+shows (ShowKey secret) = true
+shows ShowPin = true
 shows _ = false
 
 -- the same of a row's term
@@ -39,4 +41,4 @@ NgNeeds = (rules_of row_NG).needs ≡ pin_clear_at_host ∷ []
 
 -- GC needs `component` of the type of its first field at the console
 abbrev pub GcNeeds : Type 0
-GcNeeds = (rules_of row_GC).needs ≡ component_at_console (named 0) ∷ []
+GcNeeds = (rules_of row_GC).needs ≡ component_at_console (Named 0) ∷ []

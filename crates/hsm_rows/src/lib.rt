@@ -1,11 +1,14 @@
 //! The command table: its rows, the forms of their fields, how a message is read by them, and the settings of the module.
 #![tactic(auto)]
 
+pub mod fields;
 mod forms;
 mod laws;
 mod listing;
 mod read;
 mod row;
+mod ruled;
+mod rules;
 mod settings;
 mod table;
 mod texts;
@@ -16,7 +19,11 @@ pub use laws::{
 };
 pub use listing::explain;
 pub use read::{Fields, read_fields};
-pub use row::{Code, Field, Form, Public, Row, Secret};
+pub use row::{Code, Family, Field, Form, Public, Row, Secret};
+pub use rules::{
+    ActUse, AskKind, DataCheck, FixedNeed, KeyCheck, LengthRule, MacFields, Made, PinSource,
+    RuleSet, Rules, TypeSource, Under, ValueSource, Words,
+};
 pub use settings::Module;
 pub use table::{ROWS, console_row, row_of, rows};
 pub use texts::{decimal_value, digit, same_text, text_at, token_run, two_digit_value};

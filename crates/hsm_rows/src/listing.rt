@@ -114,7 +114,7 @@ fn put_number(out: &mut Reply, number: u8)
 fn shows(term: Public) -> bool
     ensures { result ≡ shows term }
 {
-    matches!(term, Public::Show(_))
+    matches!(term, Public::ShowKey(_) | Public::ShowPin)
 }
 
 // The lines of the clear reply fields, the first field being at this place.

@@ -2,6 +2,8 @@
 ghost use Rattle.std.specs.Prelude.{◌≡◌};
 ghost use Rattle.hsm_rows.specs.Texts.{two_digits};
 
+use super::rules::RuleSet;
+
 /// A two-digit code. 00 is no refusal.
 #[derive(Clone, Copy, Debug, PartialEq, Eq)]
 pub struct Code(pub u8);
@@ -109,7 +111,7 @@ pub enum Form {
     Word,
 }
 
-/// A clear key or PIN that a row works with. Numbers are positions of fields, counted from 0.
+/// A clear key that a row works with. Numbers are positions of fields, counted from 0.
 #[derive(Clone, Copy, Debug, PartialEq, Eq)]
 pub enum Secret {
     /// The key of a field, opened under an LMK pair.
@@ -120,12 +122,6 @@ pub enum Secret {
     DrawnKey,
     /// The key that is joined from components.
     Joined,
-    /// The PIN of the PIN block of a field.
-    PinOf(u8),
-    /// The PIN that is drawn.
-    DrawnPin,
-    /// The PIN of a field, under the LMK or in clear digits.
-    GivenPin(u8),
 }
 
 /// A field of a reply. Numbers are positions of the message's fields, counted from 0.
@@ -139,16 +135,14 @@ pub enum Public {
     /// A key under the key of the field `kek`, where that is present.
     SealedUnder { secret: Secret, kek: u8 },
     CheckValue(Secret),
-    /// A PIN under the LMK.
-    SealedPin(Secret),
-    /// A PIN block under the key of the field `key`.
-    BlockUnder { pin: Secret, key: u8 },
-    /// The number of digits of a PIN.
-    PinLength(Secret),
-    Pvv,
-    Offset,
-    Cvv,
-    Mac,
+    /// The row's PIN under the LMK.
+    SealedPin,
+    /// The block of the row's PIN in the format that the field `format` names, under the key of the field `key`.
+    BlockUnder { format: u8, key: u8 },
+    /// The number of digits of the row's PIN.
+    PinLength,
+    /// The row's value: a PVV, an offset, a CVV or a MAC.
+    Value,
     /// The chaining value of a MAC.
     Chain,
     LmkCheck,
@@ -166,8 +160,10 @@ pub enum Public {
     Numbers,
     /// The last notes.
     Notes,
-    /// A clear key or PIN.
-    Show(Secret),
+    /// A clear key.
+    ShowKey(Secret),
+    /// The row's PIN in the clear.
+    ShowPin,
 }
 
 /// A field of a message: its form, and the code of a message in which no text of the form stands there.
@@ -177,12 +173,25 @@ pub struct Field {
     pub code: Code,
 }
 
+/// The commands that one crate answers.
+#[derive(Clone, Copy, Debug, PartialEq, Eq)]
+pub enum Family {
+    Key,
+    Pin,
+    /// CVVs, MACs, echo and diagnostics.
+    Data,
+    Console,
+}
+
 /// A row of the command table. A host row has a command code and a reply code of two characters;
 /// a console row has a word, and an empty reply code.
 #[derive(Clone, Copy, Debug, PartialEq, Eq)]
 pub struct Row {
     pub code: &'static [u8],
     pub reply: &'static [u8],
+    pub family: Family,
     pub fields: &'static [Field],
     pub terms: &'static [Public],
+    /// What it asks beyond its forms.
+    pub rules: RuleSet,
 }

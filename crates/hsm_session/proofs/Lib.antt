@@ -14,7 +14,6 @@ pub mod ReadLaws
 pub mod Progress
 pub mod ScriptLaws
 pub mod PlanLaws
-pub mod FamilyLaws
 pub mod ClearRuns
 pub mod OneRun
 pub mod CutPieces

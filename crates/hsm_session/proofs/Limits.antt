@@ -12,8 +12,6 @@ use Rattle.std.proofs.lemmas.Slice.Eq.{bytes_eq-Decides}
 use Rattle.circular_buffer.proofs.Places.{slice_get-append_left}
 use Rattle.hsm_nibbles.specs.Nibbles.{nibbles_of, xor_nibbles}
 use Rattle.hsm_nibbles.proofs.NibbleLaws.{length-nibbles_of}
-use Rattle.hsm_types.specs.declared.types.KeyType.{KeyType}
-use Rattle.hsm_types.specs.declared.types.KeyType.TheVariants.{Tpk, Zpk}
 use Rattle.hsm_types.specs.declared.types.Scheme.{Scheme}
 use Rattle.hsm_types.specs.declared.types.Scheme.TheVariants.{Z, P, U, T, X, Y}
 use Rattle.hsm_types.specs.Schemes.{scheme_parts}
@@ -36,8 +34,14 @@ use Rattle.hsm_rows.specs.ConsoleStanding.{AuthorisationStands}
 use Rattle.hsm_rows.specs.Standing.{AreTexts}
 use Rattle.hsm_rows.specs.Forms.{decimal_from, is_minutes}
 use Rattle.hsm_rows.specs.Reading.{ReadText, is_console, reading}
-use Rattle.hsm_rows.specs.Table.{RowShape, host_rows, console_rows, row_A0, row_A6, row_A8, row_BU, row_CA, row_CC, row_DE, row_DG, row_DA, row_EA, row_DC, row_EC, row_BA, row_NG, row_JA, row_CW, row_CY, row_M6, row_M8, row_B2, row_NC, row_NO, row_RA, row_A, row_C, row_VA, row_Q, row_LOG, row_GC, row_FK}
-use Rattle.hsm_rows.specs.Rules.{RowRules, AskKind, use_ask, look_ask, recent_ask, cancel_all_ask, authorise_ask, cancel_ask, Words, no_words, two_per_part, fill_of, longer_than, translates, rules_of, host_rules, console_rules, rules_A0, rules_A6, rules_A8, rules_BU, rules_CA, rules_CC, rules_DE, rules_DG, rules_DA, rules_EA, rules_DC, rules_EC, rules_BA, rules_NG, rules_JA, rules_CW, rules_CY, rules_M6, rules_M8, rules_B2, rules_NC, rules_NO, rules_RA, rules_A, rules_C, rules_VA, rules_Q, rules_LOG, rules_GC, rules_FK}
+use Rattle.hsm_rows.specs.Table.{RowShape, host_rows, console_rows, row_A0, row_A6, row_A8, row_BU, row_CA, row_CC, row_DE, row_DG, row_DA, row_EA, row_DC, row_EC, row_BA, row_NG, row_JA, row_CW, row_CY, row_M6, row_M8, row_B2, row_NC, row_NO, row_RA, row_A, row_C, row_VA, row_Q, row_LOG, row_GC, row_FK, rules_of}
+use Rattle.hsm_rows.specs.Rules.{RowRules, rules_A0, rules_A6, rules_A8, rules_BU, rules_CA, rules_CC, rules_DE, rules_DG, rules_DA, rules_EA, rules_DC, rules_EC, rules_BA, rules_NG, rules_JA, rules_CW, rules_CY, rules_M6, rules_M8, rules_RA, rules_A, rules_C, rules_LOG, rules_GC, rules_FK}
+use Rattle.hsm_rows.specs.declared.rules.AskKind.{AskKind}
+use Rattle.hsm_rows.specs.declared.rules.Words.{Words}
+use Rattle.hsm_rows.specs.declared.rules.AskKind.TheVariants.{UseAsk, LookAsk, RecentAsk, CancelAllAsk, AuthoriseAsk, CancelAsk}
+use Rattle.hsm_rows.specs.declared.rules.Words.TheVariants.{NoWords, TwoPerPart, FillOf}
+use Rattle.hsm_rows.specs.declared.rules.DataCheck.TheVariants.{PinCheck, LongerThan}
+use Rattle.hsm_rows.specs.declared.rules.PinSource.TheVariants.{BlockPin}
 use Rattle.hsm_answers.specs.Keys.{field_text, first_code, scheme_at}
 use Rattle.hsm_answers.specs.Pins.{block_fault_code, digits_at, fill_length, format_at, pin_fault, pin_from, sent_block}
 use Rattle.hsm_answers.specs.Values.{word_count}
@@ -137,48 +141,52 @@ abbrev FewWords : RowShape → Type 0
 FewWords row = (m : Module) (text : List ℕ) (r : ReadText) → reading row text ≡ Ok r → asked_words m (rules_of row) r ≤ 12
 
 -- a row without words
-none : (row : RowShape) → (rules_of row).words ≡ no_words → FewWords row
+none : (row : RowShape) → (rules_of row).words ≡ NoWords → FewWords row
 unfolding word_count
 none row is = λ m text r reads.
     asked_most m (rules_of row) r (λ passed. subst (λ (w : Words). word_count m (rules_of row) r w ≤ 12) (sym is) (omega arith))
 
 -- a row that draws a key
-by_parts : (row : RowShape) (k : ℕ) → (rules_of row).words ≡ two_per_part k → FewWords row
+by_parts : (row : RowShape) (k : ℕ) → (rules_of row).words ≡ TwoPerPart k → FewWords row
 unfolding word_count
 by_parts row k is = λ m text r reads.
     asked_most m (rules_of row) r (λ passed. subst (λ (w : Words). word_count m (rules_of row) r w ≤ 12) (sym is) (two_parts (scheme_at r k)))
 
 -- a row that draws a PIN
 by_length : TextsAre → FewWords row_JA
-unfolding row_JA rules_of host_rules rules_JA word_count
+unfolding row_JA rules_JA word_count
 by_length are = λ m text r reads. asked_most m (rules_of row_JA) r (λ passed. (are row_JA text r refl reads).1.0.most)
 
+-- rules by which a PIN block is translated
+abbrev translating : RowRules → RowRules
+translating rules = record rules { pin = BlockPin 3 0 4 6; checks = PinCheck ∷ LongerThan 2 ∷ [] }
+
 -- a row that draws a fill
-translated : (m : Module) (ty : KeyType) (r : ReadText) → check_after m (translates ty) r ≡ None → word_count m (translates ty) r (fill_of 5) ≤ 12
+translated : (m : Module) (base : RowRules) (r : ReadText) → check_after m (translating base) r ≡ None → word_count m (translating base) r (FillOf 5) ≤ 12
 unfolding check_after checks_fault data_fault pin_fault pin_from word_count
-translated m ty r passed =
-    let rules = translates ty in
+translated m base r passed =
+    let rules = translating base in
     let block = sent_block m rules r 3 0 in
     let account = digits_at r 6 in
     let checked = first_none (checks_fault m rules r) (compared_fault m rules r rules.compared ∷ []) passed in
-    let sound = first_none (pin_fault m rules r rules.pin) (data_fault m rules r (longer_than 2) ∷ []) checked in
+    let sound = first_none (pin_fault m rules r rules.pin) (data_fault m rules r (LongerThan 2) ∷ []) checked in
     fill_most (format_at r 5) (pin_of_block (format_at r 4) block account) (two_digits (format_at r 4) block account (no_block_fault (blockfault (format_at r 4) block account) sound))
 
 by_fill_A : FewWords row_CA
-unfolding row_CA rules_of host_rules rules_CA
-by_fill_A = λ m text r reads. asked_most m (rules_of row_CA) r (λ passed. translated m Tpk r passed)
+unfolding row_CA rules_CA
+by_fill_A = λ m text r reads. asked_most m (rules_of row_CA) r (λ passed. translated m rules_CA r passed)
 
 by_fill_C : FewWords row_CC
-unfolding row_CC rules_of host_rules rules_CC
-by_fill_C = λ m text r reads. asked_most m (rules_of row_CC) r (λ passed. translated m Zpk r passed)
+unfolding row_CC rules_CC
+by_fill_C = λ m text r reads. asked_most m (rules_of row_CC) r (λ passed. translated m rules_CC r passed)
 
 host_few : TextsAre → AllByRecursion FewWords host_rows
-unfolding rules_of host_rules host_rows row_A0 row_A6 row_A8 row_BU row_CA row_CC row_DE row_DG row_DA row_EA row_DC row_EC row_BA row_NG row_JA row_CW row_CY row_M6 row_M8 row_B2 row_NC row_NO row_RA rules_A0 rules_A6 rules_A8 rules_BU rules_CA rules_CC rules_DE rules_DG rules_DA rules_EA rules_DC rules_EC rules_BA rules_NG rules_JA rules_CW rules_CY rules_M6 rules_M8 rules_B2 rules_NC rules_NO rules_RA
+unfolding host_rows row_A0 row_A6 row_A8 row_BU row_CA row_CC row_DE row_DG row_DA row_EA row_DC row_EC row_BA row_NG row_JA row_CW row_CY row_M6 row_M8 row_B2 row_NC row_NO row_RA rules_A0 rules_A6 rules_A8 rules_BU rules_CA rules_CC rules_DE rules_DG rules_DA rules_EA rules_DC rules_EC rules_BA rules_NG rules_JA rules_CW rules_CY rules_M6 rules_M8 rules_RA
 host_few are =
     (by_parts row_A0 2 refl, (none row_A6 refl, (none row_A8 refl, (none row_BU refl, (by_fill_A, (by_fill_C, (none row_DE refl, (none row_DG refl, (none row_DA refl, (none row_EA refl, (none row_DC refl, (none row_EC refl, (none row_BA refl, (none row_NG refl, (by_length are, (none row_CW refl, (none row_CY refl, (none row_M6 refl, (none row_M8 refl, (none row_B2 refl, (none row_NC refl, (none row_NO refl, (none row_RA refl, tt)))))))))))))))))))))))
 
 console_few : AllByRecursion FewWords console_rows
-unfolding rules_of console_rules console_rows row_A row_C row_VA row_Q row_LOG row_GC row_FK rules_A rules_C rules_VA rules_Q rules_LOG rules_GC rules_FK
+unfolding console_rows row_A row_C row_VA row_Q row_LOG row_GC row_FK rules_A rules_C rules_LOG rules_GC rules_FK
 console_few = (none row_A refl, (none row_C refl, (none row_VA refl, (none row_Q refl, (none row_LOG refl, (by_parts row_GC 1 refl, (none row_FK refl, tt)))))))
 
 side_few : TextsAre → (side : Side) → AllByRecursion FewWords (rows_of side)
@@ -206,12 +214,12 @@ cancelled_few false (Some activity) = omega arith
 
 kind_few : (m : Module) (rules : RowRules) (r : ReadText) (kind : AskKind) → asked_words m rules r ≤ 12 → words_of (row_ask m rules r kind) ≤ 12
 unfolding row_ask
-kind_few m rules r use_ask few = few
-kind_few m rules r look_ask few = omega arith
-kind_few m rules r recent_ask few = omega arith
-kind_few m rules r cancel_all_ask few = omega arith
-kind_few m rules r authorise_ask few = authorised_few (words_hold m r) (activity_of (field_text r 0)) (decimal_from 0 (field_text r 1))
-kind_few m rules r cancel_ask few = cancelled_few (bytes_eq (field_text r 0) (codes "*")) (activity_of (field_text r 0))
+kind_few m rules r UseAsk few = few
+kind_few m rules r LookAsk few = omega arith
+kind_few m rules r RecentAsk few = omega arith
+kind_few m rules r CancelAllAsk few = omega arith
+kind_few m rules r AuthoriseAsk few = authorised_few (words_hold m r) (activity_of (field_text r 0)) (decimal_from 0 (field_text r 1))
+kind_few m rules r CancelAsk few = cancelled_few (bytes_eq (field_text r 0) (codes "*")) (activity_of (field_text r 0))
 
 read_few : (m : Module) (row : RowShape) (text : List ℕ) (read : Result ReadText Code) → FewWords row → reading row text ≡ read → words_of (ask_read m (rules_of row) read) ≤ 12
 unfolding ask_read

@@ -7,17 +7,12 @@ use Rattle.hsm_rows.specs.declared.settings.Module.{Module}
 use Rattle.hsm_rows.specs.Table.{RowShape}
 use Rattle.hsm_answers.specs.Asks.{empty_ask}
 use Rattle.hsm_answers.specs.Messages.{Side, host, console, command_of, text_after, enabled_row}
-use Rattle.hsm_keycmd.specs.Commands.{IsKeyRow}
 use Rattle.hsm_keycmd.specs.Plans as key
-use Rattle.hsm_pincmd.specs.Commands.{IsPinRow}
 use Rattle.hsm_pincmd.specs.Plans as pin
-use Rattle.hsm_datacmd.specs.Commands.{IsDataRow}
 use Rattle.hsm_datacmd.specs.Plans as held
 use Rattle.hsm_console.specs.Plans as officers
 use Rattle.hsm_auth.specs.declared.activity.Place.{Place}
 use Rattle.hsm_auth.specs.declared.activity.Place.TheVariants.{Host, Console}
-use Rattle.hsm_session.specs.declared.families.Family.{Family}
-use Rattle.hsm_session.specs.declared.families.Family.TheVariants as family
 use Rattle.hsm_session.specs.declared.plans.Planned.{Planned}
 use Rattle.hsm_session.specs.declared.plans.Planned.TheVariants as planned
 use Rattle.hsm_session.specs.declared.plans.Plan.{Plan}
@@ -35,28 +30,6 @@ least_length m = m.header + 2
 abbrev pub least_for : Module → Place → ℕ
 least_for m Host = least_length m
 least_for m Console = 1
-
--- the codes of the key commands
-abbrev pub key_codes : List (List ℕ)
-key_codes = codes "A0" ∷ codes "A6" ∷ codes "A8" ∷ codes "BU" ∷ []
-
--- the codes of the PIN commands
-abbrev pub pin_codes : List (List ℕ)
-pin_codes =
-    codes "CA" ∷ codes "CC" ∷ codes "DE" ∷ codes "DG" ∷ codes "DA" ∷ codes "EA" ∷ codes "DC" ∷ codes "EC" ∷ codes "BA" ∷ codes "NG" ∷ codes "JA" ∷ []
-
--- the family of the command of a host row, by its code
-abbrev pub family_by : List ℕ → Family
-family_by code =
-    if list_any (bytes_eq code) key_codes then family.Key
-    else if list_any (bytes_eq code) pin_codes then family.Pin
-    else family.Data
-
--- the row is one of the family's
-abbrev pub IsOf : Family → RowShape → Type 0
-IsOf family.Key row = IsKeyRow row
-IsOf family.Pin row = IsPinRow row
-IsOf family.Data row = IsDataRow row
 
 -- the message of a plan
 abbrev pub plan_message : Plan → List ℕ

@@ -2,7 +2,6 @@
 #![tactic(auto)]
 
 mod clear;
-mod families;
 mod lane;
 mod laws;
 mod lines;

@@ -9,18 +9,18 @@ ghost use Rattle.hsm_answers.specs.Asks.{ask_of};
 ghost use Rattle.hsm_answers.specs.Messages.{command_of, console, enabled_row, header_of, host, message_answer, message_ask, text_after, unknown_answer};
 ghost use Rattle.hsm_session.specs.Plans.{IsOwnPlan, IsPlanOf, IsPlanOfMessage, least_for, least_length, plan_ask, plan_kind, plan_message, planned_ask, planned_row, planned_text, side_of};
 
-use crate::families::{Family, family_of};
 use hsm_answers::empty_ask;
 use hsm_auth::{Ask, Granted, Place};
+use hsm_commands::host_rows_followed;
 use hsm_console::ConsolePlan;
 use hsm_datacmd::DataPlan;
 use hsm_keycmd::KeyPlan;
 use hsm_pincmd::PinPlan;
-use hsm_rows::{Module, Row, console_row, row_of, same_text, token_run};
+use hsm_rows::{Family, Module, Row, console_row, row_of, same_text, token_run};
 use hsm_text::Reply;
 
 // The command of a message.
-#[derive(Clone, Copy)]
+#[derive(Drop)]
 enum Planned<'m> {
     // Its code is in no row, or the module disables it.
     Unknown,
@@ -31,7 +31,7 @@ enum Planned<'m> {
 }
 
 /// What a message comes to before its entry: its ask, and what is left to answer.
-#[derive(Clone, Copy)]
+#[derive(Drop)]
 pub struct Plan<'m> {
     kind: Place,
     message: &'m [u8],
@@ -95,10 +95,13 @@ fn plan_row<'m>(module: &Module, row: &'static Row, text: &'m [u8]) -> Planned<'
     ensures ask { planned_ask result ≡ ask_of «module».now (shape_of row.now) text.now }
     ensures may { CanAsk (planned_ask result) }
 {
-    match family_of(row) {
+    host_rows_followed();
+    match row.family {
         Family::Key => Planned::Key(hsm_keycmd::prepare(module, row, text)),
         Family::Pin => Planned::Pin(hsm_pincmd::prepare(module, row, text)),
         Family::Data => Planned::Data(hsm_datacmd::prepare(module, row, text)),
+        // no host row is of the console's family
+        Family::Console => unreachable!(),
     }
 }
 

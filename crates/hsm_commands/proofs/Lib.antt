@@ -1,0 +1,14 @@
+pub mod ClearSteps
+pub mod ValidationSteps
+pub mod LeftSteps
+pub mod NeedSteps
+pub mod KeySteps
+pub mod PlanSteps
+pub mod FormLaws
+pub mod HeldKeys
+pub mod RoomLaws
+pub mod MacFit
+pub mod FitLaws
+pub mod HexSteps
+pub mod MacLaws
+pub mod HostRows

@@ -1,0 +1,10 @@
+pub mod Values
+pub mod Opened
+pub mod Written
+pub mod Needs
+pub mod Macs
+pub mod Demands
+pub mod Request
+pub mod Plans
+pub mod Entries
+pub mod Fit

@@ -1,0 +1,246 @@
+//! The checks of a message before its entry.
+ghost use Rattle.std.specs.Prelude.{◌≡◌, ◌∷◌, [], Some, None, if◌then◌else◌, ◌&&◌, IfOk};
+ghost use Rattle.std.specs.List.{list_any};
+ghost use Rattle.std.specs.Option.{option_map};
+ghost use Rattle.hsm_rows.specs.declared.rules.ActUse.{ActUse};
+ghost use Rattle.hsm_rows.specs.declared.rules.KeyCheck.TheVariants.{Target};
+ghost use Rattle.hsm_rows.specs.declared.rules.Under.TheVariants.{Lmk, KeyAt};
+ghost use Rattle.hsm_rows.specs.Reading.{is_end};
+ghost use Rattle.hsm_answers.specs.Keys.{field_text, given_fault, key_fault, keys_fault, parts_by_rule, parts_by_scheme, lengths_differ, source_at, type_of, wrapping_key};
+ghost use Rattle.hsm_answers.specs.Checks.{act_permit, check_before, is_forbidden, is_used, parts_fault};
+ghost use Rattle.hsm_answers.specs.Given.{code_in};
+ghost use Rattle.hsm_answers.specs.Plans.{number_of};
+ghost use Rattle.hsm_commands.specs.declared.keys.OpenedKeys.{OpenedKeys};
+ghost use Rattle.hsm_commands.specs.Demands.{parts_demands};
+ghost use Rattle.hsm_commands.specs.Opened.{IsLmkKey, KeyStands, KeyHolds, KeysStand, KeysHold};
+ghost use Rattle.hsm_commands.specs.Request.{Meets, module_of, row_rules, texts_of};
+
+use crate::keys::{FieldKey, OpenedKeys, found_in, held_key};
+use crate::needs::{act_permit, is_used, type_of};
+use crate::request::Request;
+use crate::texts::text_of;
+use hsm_answers::{
+    Asked, check_lmk_key, check_wrapped_key, flag_parts, repeats_part, scheme_named,
+};
+use hsm_rows::{ActUse, Code, KeyCheck, LengthRule, Secret, TypeSource, Under, same_text};
+use hsm_types::{Permit, length_allowed, scheme_parts};
+
+// The number of parts that a scheme field asks for.
+fn parts_by_scheme(request: &Request<'_, '_>, rule: LengthRule) -> Option<usize>
+    ensures { result ≡ parts_by_scheme rule (texts_of request.now) }
+{
+    match rule {
+        LengthRule::AsScheme(k) => Some(scheme_parts(scheme_named(text_of(request, k)))),
+        _ => None,
+    }
+}
+
+// The number of parts that a flag or an algorithm asks for.
+fn parts_by_rule(request: &Request<'_, '_>, rule: LengthRule) -> Option<usize>
+    ensures { result ≡ parts_by_rule rule (texts_of request.now) }
+{
+    match rule {
+        LengthRule::FlagPlusOne(k) => Some(flag_parts(text_of(request, k))),
+        LengthRule::TwoForAlgorithmThree(k) => {
+            if same_text(text_of(request, k), b"3") {
+                Some(2)
+            } else {
+                None
+            }
+        }
+        _ => None,
+    }
+}
+
+// Whether the schemes of two fields are of different lengths. The second may be absent.
+fn lengths_differ(request: &Request<'_, '_>, scheme: u8, second: Option<u8>) -> bool
+    ensures { result ≡ lengths_differ (texts_of request.now) scheme second }
+{
+    match second {
+        Some(second) => {
+            let letter = text_of(request, second);
+            let parts = scheme_parts(scheme_named(text_of(request, scheme)));
+            !letter.is_empty() && parts != scheme_parts(scheme_named(letter))
+        }
+        None => false,
+    }
+}
+
+// No key, or the code of what is wrong with one that is to be made.
+#[tactic(auto, unfolding(hsm_answers::specs::Keys::key_fault))]
+fn check_target(
+    request: &Request<'_, '_>,
+    ty: TypeSource,
+    scheme: u8,
+    second: Option<u8>,
+) -> Result<Option<FieldKey>, Code>
+    ensures fault { code_in result ≡ key_fault (module_of request.now) (row_rules request.now) (texts_of request.now) (Target ty scheme second) }
+    ensures key { IfOk result (λ held. KeyHolds (module_of request.now) (row_rules request.now) (texts_of request.now) (Target ty scheme second) held) }
+{
+    if lengths_differ(request, scheme, second) {
+        return Err(Code(26));
+    }
+    let parts = scheme_parts(scheme_named(text_of(request, scheme)));
+    if length_allowed(type_of(request, ty), parts) {
+        Ok(None)
+    } else {
+        Err(Code(27))
+    }
+}
+
+// Whether it is an absent wrapping key.
+fn is_left_out(wraps: bool, text: &[u8]) -> bool
+    ensures { result ≡ (wraps && is_end text.now) }
+{
+    wraps && text.is_empty()
+}
+
+// The key of a field under the LMK, or the code of what is wrong with it.
+fn check_lmk(request: &Request<'_, '_>, field: u8, asked: &Asked) -> Result<Option<FieldKey>, Code>
+    requires { type_of (texts_of request.now) (source_at field (row_rules request.now).keys) ≡ asked.now.ty }
+    ensures fault { code_in result ≡ given_fault (wrapping_key (module_of request.now) (row_rules request.now) (texts_of request.now) Lmk asked.now.ty) Lmk asked.now (field_text (texts_of request.now) field) }
+    ensures key { IfOk result (λ held. IsLmkKey (module_of request.now) (row_rules request.now) (texts_of request.now) field asked.now held) }
+{
+    let text = text_of(request, field);
+    if is_left_out(asked.wraps, text) {
+        return Ok(None);
+    }
+    match check_lmk_key(&request.module.lmk, asked, text) {
+        Ok(key) => Ok(Some(FieldKey { field, key })),
+        Err(code) => Err(code),
+    }
+}
+
+// The key of a check, or the code of what is wrong with it.
+#[tactic(auto, unfolding(hsm_answers::specs::Keys::key_fault, hsm_answers::specs::Keys::lmk_key, hsm_answers::specs::Keys::key_data_fault))]
+fn check_key(
+    request: &Request<'_, '_>,
+    earlier: &Option<FieldKey>,
+    check: KeyCheck,
+) -> Result<Option<FieldKey>, Code>
+    requires { KeyStands (module_of request.now) (row_rules request.now) (texts_of request.now) earlier.now check }
+    ensures fault { code_in result ≡ key_fault (module_of request.now) (row_rules request.now) (texts_of request.now) check }
+    ensures key { IfOk result (λ held. KeyHolds (module_of request.now) (row_rules request.now) (texts_of request.now) check held) }
+{
+    match check {
+        KeyCheck::GivenKey {
+            field,
+            under,
+            ty,
+            wraps,
+            rule,
+            parity,
+        } => {
+            let asked = Asked {
+                ty: type_of(request, ty),
+                wraps,
+                by_scheme: parts_by_scheme(request, rule),
+                by_rule: parts_by_rule(request, rule),
+                parity,
+            };
+            match under {
+                Under::Lmk => check_lmk(request, field, &asked),
+                Under::KeyAt(kek) => match found_in(earlier, kek) {
+                    Some(wrapping) => {
+                        let key = check_wrapped_key(
+                            &wrapping,
+                            kek,
+                            &asked,
+                            text_of(request, field),
+                        )?;
+                        Ok(Some(FieldKey { field, key }))
+                    }
+                    None => Err(Code(15)),
+                },
+            }
+        }
+        KeyCheck::Target { ty, scheme, second } => check_target(request, ty, scheme, second),
+    }
+}
+
+// The keys of a row's checks, or the code of the first of them with a fault.
+#[tactic(auto, unfolding(hsm_answers::specs::Keys::keys_fault))]
+pub(crate) fn check_keys(request: &Request<'_, '_>, checks: &[KeyCheck]) -> Result<OpenedKeys, Code>
+    requires { KeysStand (module_of request.now) (row_rules request.now) (texts_of request.now) checks.now }
+    ensures fault { code_in result ≡ keys_fault (module_of request.now) (row_rules request.now) (texts_of request.now) checks.now }
+    ensures keys { IfOk result (λ keys. KeysHold (module_of request.now) (row_rules request.now) (texts_of request.now) checks.now keys) }
+{
+    match checks {
+        [] => Ok(OpenedKeys {
+            first: None,
+            second: None,
+        }),
+        [a] => {
+            let first = check_key(request, &None, *a)?;
+            Ok(OpenedKeys {
+                first,
+                second: None,
+            })
+        }
+        [a, b] => {
+            let first = check_key(request, &None, *a)?;
+            let second = check_key(request, &first, *b)?;
+            Ok(OpenedKeys { first, second })
+        }
+        // a row that is followed has at most two keys
+        _ => unreachable!(),
+    }
+}
+
+// 29 where a permit that the row uses is N.
+pub(crate) fn permit_code(request: &Request<'_, '_>, acts: &[ActUse]) -> Option<Code>
+    ensures { option_map number_of result
+        ≡ (if list_any (λ (a : ActUse). is_used (texts_of request.now) a.where_present && is_forbidden (act_permit (module_of request.now) (texts_of request.now) a)) acts.now then Some 29 else None) }
+{
+    match acts {
+        [] => None,
+        [act, more @ ..] => {
+            if is_used(request, act.where_present) && act_permit(request, act) == Permit::N {
+                Some(Code(29))
+            } else {
+                permit_code(request, more)
+            }
+        }
+    }
+}
+
+// 75 where a part of a key equals the part before it.
+#[tactic(auto, unfolding(hsm_answers::specs::Checks::parts_fault, hsm_answers::specs::Values::secret_key))]
+fn parts_code(request: &Request<'_, '_>, keys: &OpenedKeys, secret: Option<Secret>) -> Option<Code>
+    requires { Meets request.now keys.now (parts_demands secret) }
+    ensures { option_map number_of result ≡ parts_fault (module_of request.now) (row_rules request.now) (texts_of request.now) secret }
+{
+    let _ = request;
+    let key = match secret {
+        None => return None,
+        Some(Secret::Opened(k)) => held_key(keys, k),
+        Some(Secret::OpenedUnder { field, .. }) => held_key(keys, field),
+        // no host row draws or joins a key before its entry
+        Some(Secret::DrawnKey | Secret::Joined) => unreachable!(),
+    };
+    if repeats_part(&key) {
+        Some(Code(75))
+    } else {
+        None
+    }
+}
+
+// The keys of a message, or the code of the first check before its entry that fails.
+#[tactic(auto, unfolding(hsm_answers::specs::Checks::check_before, hsm_answers::specs::Checks::permit_fault))]
+pub(crate) fn check_before(request: &Request<'_, '_>) -> Result<OpenedKeys, Code>
+    requires keys { KeysStand (module_of request.now) (row_rules request.now) (texts_of request.now) (row_rules request.now).keys }
+    requires parts { (keys : OpenedKeys) → KeysHold (module_of request.now) (row_rules request.now) (texts_of request.now) (row_rules request.now).keys keys
+        → Meets request.now keys (parts_demands (row_rules request.now).parts_differ) }
+    ensures fault { code_in result ≡ check_before (module_of request.now) (row_rules request.now) (texts_of request.now) }
+    ensures keys { IfOk result (λ keys. KeysHold (module_of request.now) (row_rules request.now) (texts_of request.now) (row_rules request.now).keys keys) }
+{
+    let rules = request.rules;
+    let keys = check_keys(request, rules.keys)?;
+    if let Some(code) = permit_code(request, rules.acts) {
+        return Err(code);
+    }
+    match parts_code(request, &keys, rules.parts_differ) {
+        Some(code) => Err(code),
+        None => Ok(keys),
+    }
+}

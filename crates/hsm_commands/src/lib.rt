@@ -1,0 +1,24 @@
+//! One plan for the messages of all rows: the rules of a row's table are followed as they stand there.
+#![tactic(auto)]
+
+mod authenticate;
+mod card;
+mod check;
+mod clear;
+mod fit;
+mod given;
+mod keys;
+mod late;
+mod mac;
+mod needs;
+mod pins;
+mod plan;
+mod request;
+mod terms;
+mod texts;
+mod value;
+mod values;
+mod written;
+
+pub use fit::{fits_followed, host_rows_followed};
+pub use plan::{Plan, finish, prepare};

@@ -1,4 +1,0 @@
-pub mod NeedSteps
-pub mod FieldSteps
-pub mod CheckSteps
-pub mod CommandSteps
