@@ -1,7 +1,6 @@
 pub mod Lengths
 pub mod AnswerSteps
 pub mod PlanSteps
-pub mod Repeats
 pub mod DigitTexts
 pub mod PairLengths
 pub mod DrawSteps

@@ -2,6 +2,7 @@
 use Rattle.std.specs.Prelude.{ℕ, Bool, true, false, not, ◌&&◌, ◌||◌, nat_lt, if◌then◌else◌, List, [], ◌∷◌, ◌++◌, length, map, Option, Some, None}
 use Rattle.std.specs.List.{list_any}
 use Rattle.std.specs.Str.{bytes_eq}
+use Rattle.hsm_tdes.specs.Tdes.{repeats_part}
 use Rattle.hsm_types.specs.declared.types.KeyType.{KeyType}
 use Rattle.hsm_types.specs.declared.types.Act.{Act}
 use Rattle.hsm_types.specs.declared.types.Act.TheVariants.{Generate, Import, Export}
@@ -54,12 +55,6 @@ act_permit m r a = permit_of m.permits (type_of r a.ty) a.act
 -- check 5: 29 where a permit that the row uses is N
 unfoldable pub permit_fault : Module → RowRules → ReadText → Option ℕ
 permit_fault m rules r = if list_any (λ (a : ActUse). is_used r a.where_present && is_forbidden (act_permit m r a)) rules.acts then Some 29 else None
-
--- whether a part equals the part before it
-abbrev pub repeats_part : List (List ℕ) → Bool
-repeats_part [] = false
-repeats_part (a ∷ []) = false
-repeats_part (a ∷ b ∷ more) = bytes_eq a b || repeats_part (b ∷ more)
 
 -- check 6: 75 where a part of the key equals the part before it; none of these keys is drawn
 unfoldable pub parts_fault : Module → RowRules → ReadText → Option Secret → Option ℕ

@@ -9,7 +9,7 @@ ghost use Rattle.hsm_text.specs.KeyTexts.{scheme_named, scheme_of};
 ghost use Rattle.hsm_lmk.specs.Sealing.{wrap};
 ghost use Rattle.hsm_rows.specs.declared.rules.Under.TheVariants.{Lmk, KeyAt};
 ghost use Rattle.hsm_answers.specs.Keys.{key_of, differs, scheme_fault, length_fault, key_data_fault, given_fault, opened_key, type_of_code, wrapper_of, pair_type, flag_parts};
-ghost use Rattle.hsm_answers.specs.Checks.{repeats_part};
+ghost use Rattle.hsm_tdes.specs.Tdes.{repeats_part};
 ghost use Rattle.hsm_answers.specs.Values.{first_part, second_part};
 ghost use Rattle.hsm_answers.specs.Given.{data_of, code_in};
 

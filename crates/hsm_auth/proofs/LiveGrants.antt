@@ -84,13 +84,13 @@ unended-given before (e ∷ es) =
     All-append (λ (g : Grant). (i : ℕ) × GivenIn before (e ∷ es) i g) (filter test opened) (unended (before ++ e ∷ []) es) first rest
 
 -- the ask and the answer that give the grant
-record Opens (m : ℕ) (ask : Ask) (answer : Granted) (g : Grant) : Type 0 where
+record GivesGrant (m : ℕ) (ask : Ask) (answer : Granted) (g : Grant) : Type 0 where
   minutes : ℕ
   asks : ask ≡ Authorise g.activity minutes
   answers : answer ≡ granted.Authorised
   end : g.end ≡ end_of m minutes
 
-opens-from : (m : ℕ) (ask : Ask) (answer : Granted) (g : Grant) → given m ask answer ≡ g ∷ [] → Opens m ask answer g
+opens-from : (m : ℕ) (ask : Ask) (answer : Granted) (g : Grant) → given m ask answer ≡ g ∷ [] → GivesGrant m ask answer g
 opens-from m (Use needs words) answer g e = cc
 opens-from m (Authorise activity minutes) (granted.Use first) g e = cc
 opens-from m (Authorise activity minutes) granted.Refused g e = cc
@@ -110,7 +110,7 @@ opens-from m CancelAll answer g e = cc
 opens-from m Look answer g e = cc
 opens-from m Recent answer g e = cc
 
-from-opens : (m : ℕ) (ask : Ask) (answer : Granted) (g : Grant) → Opens m ask answer g → given m ask answer ≡ g ∷ []
+from-opens : (m : ℕ) (ask : Ask) (answer : Granted) (g : Grant) → GivesGrant m ask answer g → given m ask answer ≡ g ∷ []
 from-opens m ask answer g o = (λ i. given m (o.asks i) (o.answers i)) ∙ ap (λ (k : ℕ). grant g.activity k ∷ []) (sym o.end)
 
 given_at : (h : List Entry) (i : ℕ) (g : Grant) → GivenIn [] h i g → GivenAt h i g

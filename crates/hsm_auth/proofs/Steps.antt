@@ -1,23 +1,14 @@
 -- The ledger goes on as the history does.
-use Rattle.std.proofs.Common.{◌≡◌, ℕ, ◌+◌, ◌%◌, max, List, [], ◌∷◌, ◌++◌, length, not, filter, refl, sym, ap, ap₂, ◌∙◌, arith, length-append}
+use Rattle.std.proofs.Common.{◌≡◌, ℕ, ◌+◌, ◌%◌, max, List, [], ◌∷◌, ◌++◌, length, not, filter, sym, ap, ap₂, ◌∙◌, arith, length-append}
 use Rattle.hsm_auth.specs.declared.entry.Grant.{Grant}
 use Rattle.hsm_auth.specs.declared.entry.Ask.{Ask}
-use Rattle.hsm_auth.specs.declared.entry.Ask.TheVariants.{Use, Authorise, Cancel, CancelAll, Look, Recent}
 use Rattle.hsm_auth.specs.declared.entry.Granted.{Granted}
 use Rattle.hsm_auth.specs.declared.entry.Entry.{Entry}
 use Rattle.hsm_auth.specs.declared.state.State.{State}
-use Rattle.hsm_auth.specs.History.{entry, now, lasts, live, next, recent, ends, given, words_of, kind_of, is_good, outcome, StandsFor}
-use Rattle.hsm_auth.specs.Steps.{view_of, ComesTo, answer_from, Answers, Notes}
+use Rattle.hsm_auth.specs.History.{entry, now, lasts, live, next, recent, ends, given, words_of, kind_of, is_good, answer_from, outcome, StandsFor}
+use Rattle.hsm_auth.specs.Steps.{view_of, ComesTo, Answers, Notes}
 use Rattle.hsm_auth.proofs.Histories.{now-push, now-max, live-come, live-push, next-push, recent-push}
 use Rattle.circular_buffer.specs.Buffer.{keep_last}
-
-outcome-of : (h : List Entry) (m : ℕ) (ask : Ask) → answer_from (now h m) (next h) (live h m) (recent h) ask ≡ outcome h m ask
-outcome-of h m (Use needs words) = refl
-outcome-of h m (Authorise activity minutes) = refl
-outcome-of h m (Cancel activity) = refl
-outcome-of h m CancelAll = refl
-outcome-of h m Look = refl
-outcome-of h m Recent = refl
 
 pub steps : (was come done new : State) (h : List Entry) (pass m : ℕ) (ask : Ask) (answer : Granted) → StandsFor (view_of was) h → ComesTo m was come → Answers ask answer come done → Notes ask answer done new
     → (answer ≡ outcome h m ask) × StandsFor (view_of new) (h ++ entry pass m ask answer ∷ [])
@@ -30,7 +21,7 @@ steps was come done new h pass m ask answer stands comes answers notes =
     let number : come.number ≡ length h % 9223372036854775808 = comes.number ∙ stands.number in
     let kept : come.notes.items ≡ recent h = comes.notes ∙ stands.notes in
     let long : length (h ++ e ∷ []) ≡ length h + 1 = length-append h (e ∷ []) in (
-      answers.answered ∙ (λ i. answer_from (moment i) (place i) (grants i) (kept i) ask) ∙ outcome-of h m ask,
+      answers.answered ∙ (λ i. answer_from (moment i) (place i) (grants i) (kept i) ask),
       record {
         moment = notes.moment ∙ (answers.moment ∙ (moment ∙ (now-max h m ∙ sym (now-push h e 0))));
         grants = notes.grants ∙ (answers.grants ∙ ((λ i. filter (λ (g : Grant). not (ends ask answer g.activity)) (grants i) ++ given (moment i) ask answer) ∙ sym (live-push h e)));

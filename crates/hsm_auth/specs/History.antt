@@ -150,14 +150,18 @@ same_count a grants = count_by (λ (g : Grant). same_activity a g.activity) gran
 abbrev pub other_count : Activity → List Grant → ℕ
 other_count a grants = count_by (λ (g : Grant). not (same_activity a g.activity)) grants
 
--- what the history answers to the ask at the moment m. A grant is refused where 32 of other activities live
+-- what a ledger of this moment, random place, grants and notes answers to an ask. A grant is refused where 32 of other activities live
+abbrev pub answer_from : ℕ → ℕ → List Grant → List Note → Ask → Granted
+answer_from moment place grants notes (Use needs words) = if are_met needs grants then granted.Use place else granted.Refused
+answer_from moment place grants notes (Authorise activity minutes) = if nat_le 32 (other_count activity grants) then granted.Full else granted.Authorised
+answer_from moment place grants notes (Cancel activity) = granted.Cancelled (same_count activity grants)
+answer_from moment place grants notes CancelAll = granted.Cancelled (length grants)
+answer_from moment place grants notes Look = granted.Seen moment place record { items = grants }
+answer_from moment place grants notes Recent = granted.Recent record { items = notes }
+
+-- what the history answers to the ask at the moment m
 abbrev pub outcome : List Entry → ℕ → Ask → Granted
-outcome h m (Use needs words) = if are_met needs (live h m) then granted.Use (next h) else granted.Refused
-outcome h m (Authorise activity minutes) = if nat_le 32 (other_count activity (live h m)) then granted.Full else granted.Authorised
-outcome h m (Cancel activity) = granted.Cancelled (same_count activity (live h m))
-outcome h m CancelAll = granted.Cancelled (length (live h m))
-outcome h m Look = granted.Seen (now h m) (next h) record { items = live h m }
-outcome h m Recent = granted.Recent record { items = recent h }
+outcome h m ask = answer_from (now h m) (next h) (live h m) (recent h) ask
 
 -- some history gives this answer to the ask
 abbrev pub Fits : Ask → Granted → Type 0

@@ -1,15 +1,12 @@
 -- What contracts see of a ledger's state, and the parts of its step.
-use Rattle.std.specs.Prelude.{◌≡◌, ℕ, ◌+◌, ◌%◌, ◌^◌, max, not, nat_le, if◌then◌else◌, List, [], ◌∷◌, ◌++◌, length, filter}
+use Rattle.std.specs.Prelude.{◌≡◌, ℕ, ◌+◌, ◌%◌, ◌^◌, max, not, [], ◌∷◌, ◌++◌, filter}
 use Rattle.circular_buffer.specs.Buffer.{keep_last}
 use Rattle.hsm_auth.specs.declared.entry.Grant.{Grant}
-use Rattle.hsm_auth.specs.declared.entry.Note.{Note}
 use Rattle.hsm_auth.specs.declared.entry.Ask.{Ask}
-use Rattle.hsm_auth.specs.declared.entry.Ask.TheVariants.{Use, Authorise, Cancel, CancelAll, Look, Recent}
 use Rattle.hsm_auth.specs.declared.entry.Granted.{Granted}
-use Rattle.hsm_auth.specs.declared.entry.Granted.TheVariants as granted
 use Rattle.hsm_auth.specs.declared.state.State.{State}
 use Rattle.hsm_auth.specs.Ledgers.{LedgerView}
-use Rattle.hsm_auth.specs.History.{lasts, ends, given, words_of, kind_of, is_good, are_met, same_count, other_count}
+use Rattle.hsm_auth.specs.History.{answer_from, lasts, ends, given, words_of, kind_of, is_good}
 
 -- a state as contracts see it
 abbrev pub view_of : State → LedgerView
@@ -22,15 +19,6 @@ pub record ComesTo (m : ℕ) (was new : State) : Type 0 where
   pub place : new.place ≡ was.place
   pub number : new.number ≡ was.number
   pub notes : new.notes.items ≡ was.notes.items
-
--- what a ledger of this moment, random place, grants and notes answers
-abbrev pub answer_from : ℕ → ℕ → List Grant → List Note → Ask → Granted
-answer_from moment place grants notes (Use needs words) = if are_met needs grants then granted.Use place else granted.Refused
-answer_from moment place grants notes (Authorise activity minutes) = if nat_le 32 (other_count activity grants) then granted.Full else granted.Authorised
-answer_from moment place grants notes (Cancel activity) = granted.Cancelled (same_count activity grants)
-answer_from moment place grants notes CancelAll = granted.Cancelled (length grants)
-answer_from moment place grants notes Look = granted.Seen moment place record { items = grants }
-answer_from moment place grants notes Recent = granted.Recent record { items = notes }
 
 -- the ask is answered, and the grants and the random place are what they are after it
 pub record Answers (ask : Ask) (answer : Granted) (was new : State) : Type 0 where

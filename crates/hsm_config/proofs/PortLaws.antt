@@ -9,15 +9,15 @@ use Rattle.std.proofs.lemmas.List.Folds.{list_all-map, list_all_at}
 use Rattle.toml.specs.Data.{Data, Members}
 use Rattle.toml.specs.View.{view}
 use Rattle.toml.specs.declared.value.Value.{Value}
-use Rattle.hsm_config.specs.Document.{elements_at, is_within, number_of}
+use Rattle.hsm_config.specs.Document.{elements_at, is_within, integer_of}
 use Rattle.hsm_config.specs.Rules.{are_ports, has_host_ports, host_ports_of}
 use Rattle.hsm_config.proofs.Elements.{ReadTo}
 
 abbrev is_port : Data → Bool
-is_port value = is_within 1 65535 (number_of value)
+is_port value = is_within 1 65535 (integer_of value)
 
 abbrev port : Data → ℕ
-port value = unwrap_or (number_of value) 0
+port value = unwrap_or (integer_of value) 0
 
 counted : (n : ℕ) → 1 ≤ n → n ≤ 64 → (nat_le 1 n && nat_le n 64) ≡ true
 counted n least most = grind (arith, nat_tests)

@@ -9,7 +9,7 @@ use Rattle.std.proofs.lemmas.List.{length-map}
 use Rattle.std.proofs.lemmas.Str.{IsUtf8-from_is_utf8, is_utf8-from_IsUtf8}
 use Rattle.toml.specs.Data.{Data, Members}
 use Rattle.toml.specs.Parse.{parse_document}
-use Rattle.hsm_config.specs.Document.{elements_at, is_within, number_of}
+use Rattle.hsm_config.specs.Document.{elements_at, is_within, integer_of}
 use Rattle.hsm_config.specs.Rules.{all_different, are_odd, first_broken, has_different_ports, has_host_ports, has_odd_pairs, host_ports_of}
 use Rattle.hsm_config.specs.Configs.{config_in, config_of, settled, ports_of}
 use Rattle.hsm_config.specs.declared.configuration.Config.{Config}
@@ -62,11 +62,11 @@ different_told d (Ok config) is =
 different_told d (Err fault) is = tt
 
 some_elements : (values : List Data) (test : Bool) → ((nat_le 1 (length values) && nat_le (length values) 64) && test) ≡ true
-    → 1 ≤ length (map (λ port. unwrap_or (number_of port) 0) values)
+    → 1 ≤ length (map (λ port. unwrap_or (integer_of port) 0) values)
 some_elements values test holds =
     let counts = and_parts (nat_le 1 (length values) && nat_le (length values) 64) test holds in
     let least = and_parts (nat_le 1 (length values)) (nat_le (length values) 64) counts.0 in
-    rw (length-map values (λ (port : Data). unwrap_or (number_of port) 0)) (grind (arith, nat_tests))
+    rw (length-map values (λ (port : Data). unwrap_or (integer_of port) 0)) (grind (arith, nat_tests))
 
 pub host_told : (d : Members) (r : Result Config ConfigFault) → r ≡ settled d (first_broken d) → IfOk r (λ config. 1 ≤ length config.host_ports.items)
 unfolding config_of host_ports_of
@@ -74,5 +74,5 @@ host_told d (Ok config) is =
     let parts = told d (first_broken d) config is in
     let ports : has_host_ports d ≡ true = rule_holds d 7 (lit< tt) parts.0 in
     let values = elements_at (codes "host_ports") d in
-    rw parts.1 (some_elements values (list_all (λ (port : Data). is_within 1 65535 (number_of port)) values) ports)
+    rw parts.1 (some_elements values (list_all (λ (port : Data). is_within 1 65535 (integer_of port)) values) ports)
 host_told d (Err fault) is = tt

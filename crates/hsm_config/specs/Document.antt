@@ -30,20 +30,20 @@ abbrev pub elements_at : List ℕ → Members → List Data
 elements_at key document = listed (option_and_then as_array (get_member key document))
 
 -- the text at a key, if one stands there
-abbrev pub text_at : List ℕ → Members → Option (List ℕ)
-text_at key document = option_and_then as_str (get_member key document)
+abbrev pub string_at : List ℕ → Members → Option (List ℕ)
+string_at key document = option_and_then as_str (get_member key document)
 
 abbrev pub natural : ℤ → Option ℕ
 natural (pos n) = Some n
 natural (negsuc n) = None
 
 -- the number that a value is, if it is an integer and not negative
-abbrev pub number_of : Data → Option ℕ
-number_of value = option_and_then natural (as_integer value)
+abbrev pub integer_of : Data → Option ℕ
+integer_of value = option_and_then natural (as_integer value)
 
 -- the number at a key, if one stands there
 abbrev pub number_at : List ℕ → Members → Option ℕ
-number_at key document = option_and_then number_of (get_member key document)
+number_at key document = option_and_then integer_of (get_member key document)
 
 -- a number of this range
 abbrev pub is_within : ℕ → ℕ → Option ℕ → Bool

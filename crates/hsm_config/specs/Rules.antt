@@ -5,7 +5,7 @@ use Rattle.std.specs.Str.{bytes_eq}
 use Rattle.toml.specs.Data.{Data, Members}
 use Rattle.hsm_parity.specs.Parity.{adjusted_byte}
 use Rattle.hsm_parity.specs.Parity.{has_odd_parity}
-use Rattle.hsm_config.specs.Document.{keys_of, elements_at, text_at, number_at, number_of, is_within, are_hex, all_hex_bytes}
+use Rattle.hsm_config.specs.Document.{keys_of, elements_at, string_at, number_at, integer_of, is_within, are_hex, all_hex_bytes}
 
 -- the seven keys
 abbrev pub known_keys : List (List ℕ)
@@ -38,7 +38,7 @@ are_odd pairs = list_all (λ pair. list_all has_odd_parity pair) pairs
 
 -- the LMK pairs that a document says
 unfoldable pub pairs_of : Members → List (List ℕ)
-pairs_of document = if is_test (text_at (codes "lmk") document) then test_pairs else all_hex_bytes (elements_at (codes "lmk") document)
+pairs_of document = if is_test (string_at (codes "lmk") document) then test_pairs else all_hex_bytes (elements_at (codes "lmk") document)
 
 -- the digests of the officers' words that a document says
 unfoldable pub officers_of : Members → List (List ℕ)
@@ -50,11 +50,11 @@ number_or_zero key document = unwrap_or (number_at key document) 0
 
 -- the ports of the host lanes that a document says
 unfoldable pub host_ports_of : Members → List ℕ
-host_ports_of document = map (λ port. unwrap_or (number_of port) 0) (elements_at (codes "host_ports") document)
+host_ports_of document = map (λ port. unwrap_or (integer_of port) 0) (elements_at (codes "host_ports") document)
 
 -- 1 to 64 integers of 1 to 65535
 abbrev pub are_ports : List Data → Bool
-are_ports values = (nat_le 1 (length values) && nat_le (length values) 64) && list_all (λ port. is_within 1 65535 (number_of port)) values
+are_ports values = (nat_le 1 (length values) && nat_le (length values) 64) && list_all (λ port. is_within 1 65535 (integer_of port)) values
 
 -- no two of the numbers are equal
 abbrev pub all_different : List ℕ → Bool
@@ -79,7 +79,7 @@ has_officers document = are_hex 2 64 (elements_at (codes "officers") document)
 
 -- 5: the LMK set is the text `test` or an array of 20 texts of 32 hexadecimal digits
 abbrev pub has_pairs : Members → Bool
-has_pairs document = is_test (text_at (codes "lmk") document) || are_hex 20 32 (elements_at (codes "lmk") document)
+has_pairs document = is_test (string_at (codes "lmk") document) || are_hex 20 32 (elements_at (codes "lmk") document)
 
 -- 6: every byte of the LMK pairs has odd parity
 abbrev pub has_odd_pairs : Members → Bool

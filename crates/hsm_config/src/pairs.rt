@@ -4,10 +4,10 @@ ghost use Rattle.std.specs.Prelude.{◌≡◌, codes, Some, None, if◌then◌el
 ghost use Rattle.std.specs.List.{list_all};
 ghost use Rattle.toml.specs.View.{table_view};
 ghost use Rattle.hsm_parity.specs.Parity.{has_odd_parity};
-ghost use Rattle.hsm_config.specs.Document.{text_at};
+ghost use Rattle.hsm_config.specs.Document.{string_at};
 ghost use Rattle.hsm_config.specs.Rules.{are_odd, has_pairs, is_test, pairs_of};
 
-use crate::values::{all_hex_bytes, elements_at, text_at};
+use crate::values::{all_hex_bytes, elements_at, string_at};
 use toml::Table;
 
 // Pair k has 8 bytes of odd parity made of 32 + 2k, then 8 made of 96 + 2k.
@@ -37,9 +37,9 @@ const TEST_PAIRS: [[u8; 16]; 20] = [
 
 // Whether the LMK set is the test set.
 fn is_test(table: &Table) -> bool
-    ensures { result ≡ is_test (text_at (codes "lmk") (table_view table.now)) }
+    ensures { result ≡ is_test (string_at (codes "lmk") (table_view table.now)) }
 {
-    match text_at(table, "lmk") {
+    match string_at(table, "lmk") {
         Some(text) => text.as_bytes() == b"test".as_slice(),
         None => false,
     }

@@ -3,14 +3,14 @@
 ghost use Rattle.std.specs.Prelude.{◌≡◌, ◌*◌, ◌<◌, ◌^◌, Some, None, map, if◌then◌else◌, option_map};
 ghost use Rattle.toml.specs.Data.{as_str};
 ghost use Rattle.toml.specs.View.{table_view, view};
-ghost use Rattle.hsm_config.specs.Document.{all_hex_bytes, are_hex, elements_at, hex_bytes, is_hex, is_within, number_at, number_of, text_at};
+ghost use Rattle.hsm_config.specs.Document.{all_hex_bytes, are_hex, elements_at, hex_bytes, is_hex, is_within, number_at, integer_of, string_at};
 
 use hex::FromHex;
 use toml::{Table, Value};
 
 // The number that a value is, if it is an integer of this range.
 pub fn number_within(value: &Value, least: u16, most: u16) -> Option<u16>
-    ensures { result ≡ (if is_within least most (number_of (view value.now)) then number_of (view value.now) else None) }
+    ensures { result ≡ (if is_within least most (integer_of (view value.now)) then integer_of (view value.now) else None) }
 {
     let number = match value.as_integer() {
         Some(number) => number,
@@ -33,8 +33,8 @@ pub fn number_at(table: &Table, key: &str, least: u16, most: u16) -> Option<u16>
 }
 
 // The text at a key, if one stands there.
-pub fn text_at<'a>(table: &'a Table, key: &str) -> Option<&'a str>
-    ensures { option_map (λ text. text.now) result ≡ text_at key.now (table_view table.now) }
+pub fn string_at<'a>(table: &'a Table, key: &str) -> Option<&'a str>
+    ensures { option_map (λ text. text.now) result ≡ string_at key.now (table_view table.now) }
 {
     match table.get(key) {
         Some(value) => value.as_str(),

@@ -21,6 +21,7 @@ IsAnswerFor old NotYet = IsNotYet old.least old.bytes × (length old.bytes < 655
 IsAnswerFor old (Short n) = IsShort old.least n old.bytes
 IsAnswerFor old (Message m) = IsMessage old.least m.now × ((rest : List ℕ) × (old.bytes ≡ frame m.now ++ rest))
 
--- what is held once the answer's loan ends
+-- What is held once the answer's loan ends: what `Answers` says of what was held and this answer. A message is lent out of the receiver, so until
+-- then the receiver has no state that a plain clause could name; `Rests` is the toolchain's word for the one that it comes to.
 abbrev pub LeavesAnswered : MutBor Held → Next → Fml
 LeavesAnswered frames answer = Rests the_row frames (Answers frames.now (answer_of answer))

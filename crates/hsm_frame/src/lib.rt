@@ -99,7 +99,7 @@ impl Frames {
     pub fn next(&mut self) -> Next<'_>
         // What the answer says of the bytes that were held; a message that is lent is just that of the frame.
         ensures answer { IsAnswerFor self.old result }
-        // What is held once the answer is done with.
+        // What is held once the answer is done with, as `Answers` says. `sem` and the loan are the toolchain's words for a state that a lent message hides.
         ensures* leaves { sem 𝓛 (LeavesAnswered self.entry result) }
     {
         match first_frame(&self.buffer[self.start..], self.least) {

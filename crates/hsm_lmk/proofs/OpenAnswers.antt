@@ -1,6 +1,6 @@
 -- What opening a text answers, as a function.
-use Rattle.std.proofs.Common.{◌≡◌, ℕ, zero, suc, ◌∙◌, Bool, true, false, ◌&&◌, List, [], ◌∷◌, refl, sym, ap, arith}
-use Rattle.std.specs.Prelude.{All, Result, Ok, Err}
+use Rattle.std.proofs.Common.{subst, ◌≡◌, ℕ, zero, suc, ◌∙◌, Bool, true, false, ◌&&◌, List, [], ◌∷◌, refl, sym, ap, arith}
+use Rattle.std.specs.Prelude.{◌↔◌, ◌*◌, ◌^◌, ◌<◌, if◌then◌else◌, length, All, Result, Ok, Err}
 use Rattle.std.specs.Bool.{Decides}
 use Rattle.std.specs.List.{list_all}
 use Rattle.hsm_parity.specs.Parity.{IsOdd, has_odd_parity}
@@ -10,7 +10,9 @@ use Rattle.hsm_lmk.specs.Pairs.{AllOdd}
 use Rattle.hsm_lmk.specs.Opened.{opened, all_odd, open_answer}
 use Rattle.hsm_lmk.specs.declared.OpenFault.{OpenFault}
 use Rattle.hsm_lmk.specs.declared.OpenFault.TheVariants as fault
+use Rattle.hsm_types.specs.Schemes.{scheme_parts}
 use Rattle.hsm_lmk.proofs.OpenedLaws.{opens_to_sealed}
+use Rattle.hsm_lmk.proofs.SealedLaws.{some_key}
 
 and-left : (a b : Bool) → (a && b) ≡ true → a ≡ true
 and-left true b e = refl
@@ -61,3 +63,22 @@ opens-is refused permitted w s text (Err fault.Parity) h =
     let same : opened w s text ≡ key = opens_to_sealed w s key text h.3 in
     let even : all_odd (opened w s text) ≡ false = not_true (all_odd (opened w s text)) (λ e. h.4 ((all_odd-Decides key).0 (ap all_odd (sym same) ∙ e))) in
     rw (h.0, h.1, even) refl
+
+-- the same the other way round, for a text of bytes that has the scheme's length
+opens-from : (refused permitted : Bool) (w : List (List ℕ)) (s : Scheme) (text : List ℕ) → All (λ byte. byte < 2 ^ 8) text → length text ≡ 8 * scheme_parts s
+    → Opens refused permitted w s text (open_answer refused permitted w s text)
+unfolding open_answer
+opens-from true permitted w s text bytes size = refl
+opens-from false false w s text bytes size = (refl, refl)
+opens-from false true w s text bytes size = by (all_odd (opened w s text)) refl where
+  by : (odd : Bool) → all_odd (opened w s text) ≡ odd → Opens false true w s text (if odd then Ok (opened w s text) else Err fault.Parity)
+  by true e = (refl, refl, some_key w s text bytes size, (all_odd-Decides (opened w s text)).0 e)
+  by false e = (refl, refl, opened w s text, some_key w s text bytes size, λ odd. let z : all_odd (opened w s text) ≡ true = (all_odd-Decides (opened w s text)).1 odd in absurd (cc))
+
+-- the answer is the one that the relation tells
+pub opens-exactly : (refused permitted : Bool) (w : List (List ℕ)) (s : Scheme) (text : List ℕ) (r : Result (List (List ℕ)) OpenFault) → All (λ byte. byte < 2 ^ 8) text
+    → length text ≡ 8 * scheme_parts s → (r ≡ open_answer refused permitted w s text) ↔ Opens refused permitted w s text r
+opens-exactly refused permitted w s text r bytes size = (
+  λ e. subst (λ (x : Result (List (List ℕ)) OpenFault). Opens refused permitted w s text x) (sym e) (opens-from refused permitted w s text bytes size),
+  opens-is refused permitted w s text r,
+)

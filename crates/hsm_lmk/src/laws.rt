@@ -1,10 +1,12 @@
 //! Laws of sealing.
-ghost use Rattle.std.specs.Prelude.{◌≡◌, ◌*◌, ◌^◌, ◌<◌, ℕ, List, length, All};
+ghost use Rattle.std.specs.Prelude.{◌≡◌, ◌*◌, ◌^◌, ◌<◌, ◌↔◌, ℕ, Bool, List, Result, length, All};
 ghost use Rattle.hsm_types.specs.declared.types.Scheme.{Scheme};
 ghost use Rattle.hsm_types.specs.Schemes.{scheme_parts};
 ghost use Rattle.hsm_tdes.specs.Tdes.{IsKey};
 ghost use Rattle.hsm_lmk.specs.Sealing.{Sealed};
-ghost use Rattle.hsm_lmk.specs.Opened.{sealed, opened};
+ghost use Rattle.hsm_lmk.specs.Opened.{open_answer, sealed, opened};
+ghost use Rattle.hsm_lmk.specs.Opening.{Opens};
+ghost use Rattle.hsm_lmk.specs.declared.OpenFault.{OpenFault};
 
 /// A text is at most one key sealed.
 pub fn at_most_one_key()
@@ -27,4 +29,11 @@ pub fn one_text()
     ensures some { (w : List (List ℕ)) (s : Scheme) (key : List (List ℕ)) → IsKey key → length key ≡ scheme_parts s → Sealed w s key (sealed w s key) }
     ensures most { (w : List (List ℕ)) (s : Scheme) (key : List (List ℕ)) (text : List ℕ) → All (λ byte. byte < 2 ^ 8) text → Sealed w s key text
         → text ≡ sealed w s key }
+{}
+
+/// What `open` and `open_under` answer, as a relation: the key that the text is sealed, or why it is refused.
+pub fn opens_exactly()
+    ensures { (refused permitted : Bool) (w : List (List ℕ)) (s : Scheme) (text : List ℕ) (r : Result (List (List ℕ)) OpenFault)
+        → All (λ byte. byte < 2 ^ 8) text → length text ≡ 8 * scheme_parts s
+        → (r ≡ open_answer refused permitted w s text) ↔ Opens refused permitted w s text r }
 {}

@@ -6,7 +6,7 @@ ghost use Rattle.hsm_types.specs.Table.{variant_of, allows_length};
 ghost use Rattle.hsm_types.specs.Schemes.{scheme_parts};
 ghost use Rattle.hsm_tdes.specs.Tdes.{enciphered, deciphered};
 ghost use Rattle.hsm_lmk.specs.Opened.{all_odd, open_answer, opened, sealed};
-ghost use Rattle.hsm_lmk.specs.Opening.{AllPairsOdd, IsFirstEven, Opens, refuses_scheme, is_untagged_pair, is_lmk_scheme};
+ghost use Rattle.hsm_lmk.specs.Opening.{AllPairsOdd, IsFirstEven, refuses_scheme, is_untagged_pair, is_lmk_scheme};
 ghost use Rattle.hsm_lmk.specs.Pairs.{AllOdd, lmk_pair};
 ghost use Rattle.hsm_lmk.specs.Sealing.{Sealed, under, varied, scheme_variants, type_variants, wrap, block_at, pair_key, lmk_check};
 
@@ -288,7 +288,7 @@ fn open_parts(wrapping: &Key, scheme: Scheme, text: &[u8]) -> Key
 fn open_odd(wrapping: &Key, scheme: Scheme, text: &[u8]) -> Result<Key, OpenFault>
     requires wrapping { 2 ≤ length wrapping.now }
     requires size { length text.now ≡ 8 * scheme_parts scheme }
-    ensures opens { Opens false true wrapping.now scheme text.now result }
+    ensures parts { IfOk result (λ key. length key ≡ scheme_parts scheme) }
     ensures value { result ≡ open_answer false true wrapping.now scheme text.now }
 {
     let key = open_parts(wrapping, scheme, text);
@@ -315,7 +315,7 @@ fn refuses_scheme(ty: KeyType, scheme: Scheme) -> bool
 #[tactic(auto, unfolding(crate::specs::Opened::open_answer))]
 pub fn open(set: &LmkSet, ty: KeyType, scheme: Scheme, text: &[u8]) -> Result<Key, OpenFault>
     requires { length text.now ≡ 8 * scheme_parts scheme }
-    ensures opens { Opens (refuses_scheme ty scheme) (allows_length ty (scheme_parts scheme)) (wrap set.now ty) scheme text.now result }
+    ensures parts { IfOk result (λ key. length key ≡ scheme_parts scheme) }
     ensures value { result ≡ open_answer (refuses_scheme ty scheme) (allows_length ty (scheme_parts scheme)) (wrap set.now ty) scheme text.now }
 {
     if refuses_scheme(ty, scheme) {
@@ -333,7 +333,7 @@ pub fn open(set: &LmkSet, ty: KeyType, scheme: Scheme, text: &[u8]) -> Result<Ke
 pub fn open_under(kek: &Key, scheme: Scheme, text: &[u8]) -> Result<Key, OpenFault>
     requires kek { 2 ≤ length kek.now }
     requires size { length text.now ≡ 8 * scheme_parts scheme }
-    ensures opens { Opens (is_untagged_pair scheme) true kek.now scheme text.now result }
+    ensures parts { IfOk result (λ key. length key ≡ scheme_parts scheme) }
     ensures value { result ≡ open_answer (is_untagged_pair scheme) true kek.now scheme text.now }
 {
     if matches!(scheme, Scheme::P) {

@@ -1,6 +1,7 @@
 -- Keys of one to three parts (FIPS 46-3, TDEA). A part is a list of 8 bytes.
-use Rattle.std.specs.Prelude.{◌≡◌, ℕ, ◌^◌, ◌<◌, ◌≤◌, ◌≢◌, ◌⊎◌, List, [], ◌∷◌, length, take, map, All, flat_map}
+use Rattle.std.specs.Prelude.{◌≡◌, ℕ, ◌^◌, ◌<◌, ◌≤◌, ◌≢◌, Bool, false, ◌||◌, List, [], ◌∷◌, length, take, map, All, flat_map}
 use Rattle.std.specs.List.{AllByRecursion}
+use Rattle.std.specs.Str.{bytes_eq}
 use Rattle.hsm_nibbles.specs.Nibbles.{nibbles_of}
 use Rattle.hsm_nibbles.specs.Characters.{hex_character}
 use Rattle.hsm_des.specs.Des.{des_encrypt, des_decrypt}
@@ -34,11 +35,11 @@ pub record IsKey (key : List (List ℕ)) : Type 0 where
 unfoldable pub check_value : List (List ℕ) → List ℕ
 check_value key = take 6 (map hex_character (nibbles_of (enciphered key 0)))
 
--- some part equals the part before it
-abbrev pub RepeatsPart : List (List ℕ) → Type 0
-RepeatsPart [] = ⊥
-RepeatsPart (a ∷ []) = ⊥
-RepeatsPart (a ∷ b ∷ more) = (a ≡ b) ⊎ RepeatsPart (b ∷ more)
+-- whether some part equals the part before it
+abbrev pub repeats_part : List (List ℕ) → Bool
+repeats_part [] = false
+repeats_part (a ∷ []) = false
+repeats_part (a ∷ b ∷ more) = bytes_eq a b || repeats_part (b ∷ more)
 
 -- the parts one after another
 abbrev pub key_bytes : List (List ℕ) → List ℕ

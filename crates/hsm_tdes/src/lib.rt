@@ -2,7 +2,7 @@
 #![tactic(auto)]
 
 ghost use Rattle.std.specs.Prelude.{◌≡◌, ◌+◌, ◌*◌, ◌<◌, ◌≤◌, ◌↔◌, [], ◌∷◌, length, slice_get, slice_range, IsNone, IfSome, IsTrue, Some, codes};
-ghost use Rattle.hsm_tdes.specs.Tdes.{IsKey, IsPart, enciphered, deciphered, check_value, RepeatsPart, key_bytes, IsNoKeyLength};
+ghost use Rattle.hsm_tdes.specs.Tdes.{IsKey, IsPart, enciphered, deciphered, check_value, repeats_part, key_bytes, IsNoKeyLength};
 
 pub mod laws;
 mod prepared;
@@ -173,7 +173,7 @@ pub fn check_value(key: &Key) -> [u8; 6]
 
 /// Whether some part equals the part before it.
 pub fn parts_equal(key: &Key) -> bool
-    ensures { IsTrue result ↔ RepeatsPart key.now }
+    ensures { result ≡ repeats_part key.now }
 {
     match key.parts {
         Parts::One(_) => false,

@@ -1,7 +1,7 @@
 use Rattle.std.proofs.Common.{inl, inr, arith}
 use Rattle.std.proofs.lemmas.Bool.Decides.{nat_tests}
 use Rattle.toml.specs.View.{table_view, view}
-use Rattle.hsm_config.specs.Document.{number_of}
+use Rattle.hsm_config.specs.Document.{integer_of}
 use Rattle.hsm_config.proofs.PortLaws.{all_ports, one_no_port, other_number, refused}
 use Rattle.hsm_config.proofs.TestedAnswers.{no_number}
 use Rattle.hsm_config.proofs.ports.host_ports_of.Goals as goal
@@ -18,7 +18,7 @@ returns-then-is_empty c =
 pub returns-in-None : goal.returns-in-None
 returns-in-None c =
     let values = c.elements_at-values.result.now in
-    let fails = no_number 1 65535 (number_of (view c.value-item.result)) c.number_within.result c.number_within.ensures c.in-None.is in
+    let fails = no_number 1 65535 (integer_of (view c.value-item.result)) c.number_within.result c.number_within.ensures c.in-None.is in
     refused (table_view c.args.table.now) values c.elements_at-values.ensures
     (one_no_port values c.loop-value.value-index c.value-item.result c.loop-value-test.true c.value-item.is fails)
 

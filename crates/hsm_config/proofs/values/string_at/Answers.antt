@@ -1,6 +1,6 @@
 use Rattle.std.proofs.Common.{refl}
 use Rattle.toml.proofs.Views.{table_get}
-use Rattle.hsm_config.proofs.values.text_at.Goals as goal
+use Rattle.hsm_config.proofs.values.string_at.Goals as goal
 
 pub returns-in-Some : goal.returns-in-Some
 returns-in-Some c =
