@@ -26,7 +26,7 @@ use Rattle.hsm_commands.specs.Opened.{KeysHold}
 use Rattle.hsm_commands.specs.Demands.{Demand, so, has_digits, has_hex16, has_length, has_clear_pin, has_validation, has_pan, has_account, account_field, IsTwelveDigits, has_mac_texts, has_key, has_pair, has_key_under, fits_algorithm, has_sound_data, has_least, fits_scheme, can_wrap, secret_parts, CanWrap, Met, AllMet, EachMet, parts_demands, pin_demands, check_demands, value_demands, word_demands, term_demands}
 use Rattle.hsm_commands.specs.Plans.{RowStands, IsFollowed}
 use Rattle.hsm_commands.specs.Fit.{form_at, is_digits, is_hex16, is_length, is_clear_pin, is_pair, is_validation, is_account, has_twelve, meets, meets_all, meets_each, wraps_in, is_shorter, has_shorter, is_mac, has_mac, sealed_fits, wrapped_fits, all_fit, all_true, rules_fit}
-use Rattle.hsm_commands.proofs.FormLaws.{text_is, digits_mean, hex16_means, length_means, clear_means, pair_means, validation_means, account_means, IsTwelve, IsPairText}
+use Rattle.hsm_commands.proofs.FormLaws.{text_is, digits_mean, hex16_means, length_means, clear_means, pair_means, validation_means, account_means, IsTwelve, HasTwoParts}
 use Rattle.hsm_commands.proofs.MacFit.{mac_stands, mac_same, takes_by}
 use Rattle.hsm_commands.proofs.RoomLaws.{room_is}
 use Rattle.hsm_commands.proofs.HeldKeys.{key_held, key_taken, key_under, key_sized, under_sized, wrapping_held, targets_same, keys_stand, or_cases, not_true, same_number}
@@ -144,7 +144,7 @@ module _ (m : Module) (rules : RowRules) (fs : List Field) (r : ReadText) (texts
   met keys hold (has_pair k) h =
       let p = and_parts _ _ h in
       let key = key_held m rules r rules.keys keys k hold p.0 in
-      (key.0, key.1 ∙ text_is is_pair IsPairText pair_means fs r.texts k texts p.1)
+      (key.0, key.1 ∙ text_is is_pair HasTwoParts pair_means fs r.texts k texts p.1)
   met keys hold (has_key_under k kek) h = key_under m rules r rules.keys keys k kek hold h
   met keys hold (fits_algorithm f) h =
       takes_by (bytes_eq (field_text r f.algorithm) (codes "3")) (lmk_key m rules r f.key) (key_taken m rules r rules.keys keys f.key f.algorithm hold h)

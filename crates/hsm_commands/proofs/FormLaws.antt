@@ -66,11 +66,11 @@ pub clear_means : Means is_clear_pin IsTwelve
 clear_means form.ClearPin e t h x = x.long
 clear_means _ e t h x = let z : ⊥ = cc in absurd z
 
-abbrev pub IsPairText : List ℕ → Type 0
-IsPairText t = scheme_parts (scheme_of t) ≡ 2
+abbrev pub HasTwoParts : List ℕ → Type 0
+HasTwoParts t = scheme_parts (scheme_of t) ≡ 2
 
-pub pair_means : Means is_pair IsPairText
-pair_means form.Pair e t h x = x
+pub pair_means : Means is_pair HasTwoParts
+pair_means form.Pair e t h x = x.parts
 pair_means _ e t h x = let z : ⊥ = cc in absurd z
 
 pub validation_means : Means is_validation IsValidation
