@@ -1,12 +1,15 @@
-// How much room the reads of a connection offer.
-ghost use Rattle.std.specs.Prelude.{◌≡◌, false, None};
+// How much room the reads of a connection offer, and what was written before each of them.
+ghost use Rattle.std.specs.Prelude.{◌≡◌, false, None, IfOk};
+ghost use Rattle.hsm_auth.specs.declared.activity.Place.TheVariants.{Host};
+ghost use Rattle.hsm_session.specs.Plans.{least_for};
 
 use arrayvec::ArrayVec;
 use hsm_auth::{Ledger, Place};
-use hsm_desk::Desk;
+use hsm_desk::{Desk, Pass};
 use hsm_frame::Frames;
 use hsm_io::{Got, Link, MemClock, OpenGate, Put};
 use hsm_laboratory::{Set, module_of};
+use hsm_rows::Module;
 use hsm_session::{ConnEnd, Tools, least_message, serve_link};
 use hsm_text::Reply;
 use std::alloc::{Alloc, Global};
@@ -49,21 +52,28 @@ impl Link for Noting {
     }
 }
 
+// What serves a host's connection, over this pass.
+fn tools_of(alloc: Global, module: &Module, pass: Pass) -> Result<Tools<MemClock, OpenGate>, Fail>
+    ensures least { IfOk result (λ tools. (tools.frames.least ≡ least_for «module».now Host) × (tools.pass ≡ pass)) }
+{
+    let mut moments = ArrayVec::new();
+    moments.push(7);
+    Ok(Tools {
+        pass,
+        clock: MemClock::new(moments),
+        gate: OpenGate,
+        frames: Frames::open(alloc, least_message(module, Place::Host))?,
+        reply: Reply::new(),
+        out: ArrayVec::new(),
+        lane: 1,
+    })
+}
+
 fn offers(rt: &(impl Abort + Alloc<A = Global> + Wait)) -> Result<(), Fail> {
     let alloc = rt.alloc();
     let module = module_of(alloc, Set::E1, 1).ok_or("module")?;
     let (desk, pass) = Desk::new(alloc, Ledger::new(alloc)?)?;
-    let mut moments = ArrayVec::new();
-    moments.push(7);
-    let mut tools = Tools {
-        pass,
-        clock: MemClock::new(moments),
-        gate: OpenGate,
-        frames: Frames::open(alloc, least_message(&module, Place::Host))?,
-        reply: Reply::new(),
-        out: ArrayVec::new(),
-        lane: 1,
-    };
+    let mut tools = tools_of(alloc, &module, pass)?;
     let mut link = Noting {
         left: 65_537,
         offered: ArrayVec::new(),
@@ -84,4 +94,71 @@ fn offers(rt: &(impl Abort + Alloc<A = Global> + Wait)) -> Result<(), Fail> {
 #[test]
 fn rooms_offered(rt: HostRuntime) -> Result<(), Fail> {
     offers(&rt)
+}
+
+// Two frames that ask for the check value of a key, the second with the header 0002.
+const FRAMES: [&[u8]; 2] = [
+    b"\x00\x190001BU01085E813540F0AB405",
+    b"\x00\x190002BU01085E813540F0AB405",
+];
+
+// The two answers.
+const ANSWERS: &[u8] = b"\x00\x0E0001BV00D5D44F\x00\x0E0002BV00D5D44F";
+
+// A connection on which each read gives one frame, and notes how many bytes were written before it.
+#[derive(Drop)]
+struct Asking {
+    reads: usize,
+    before: ArrayVec<usize, 4>,
+    written: ArrayVec<u8, 64>,
+}
+
+impl Link for Asking {
+    ghost traffic = { λ link. None };
+
+    ghost faults = { λ link. 0 };
+
+    ghost last_was_read = { λ link. false };
+
+    fn read(&mut self, room: &mut [u8]) -> Got {
+        let _ = self.before.try_push(self.written.len());
+        let frame = match FRAMES.get(self.reads) {
+            Some(frame) => *frame,
+            None => return Got::End,
+        };
+        if room.len() < frame.len() || frame.len() == 0 {
+            return Got::End;
+        }
+        self.reads += 1;
+        room[..frame.len()].copy_from_slice(frame);
+        Got::Bytes(frame.len())
+    }
+
+    fn write(&mut self, piece: &[u8]) -> Put {
+        let _ = self.written.try_extend_from_slice(piece);
+        Put::Took(piece.len())
+    }
+}
+
+fn replies_first(rt: &(impl Abort + Alloc<A = Global> + Wait)) -> Result<(), Fail> {
+    let alloc = rt.alloc();
+    let module = module_of(alloc, Set::E1, 1).ok_or("module")?;
+    let (desk, pass) = Desk::new(alloc, Ledger::new(alloc)?)?;
+    let mut tools = tools_of(alloc, &module, pass)?;
+    let mut link = Asking {
+        reads: 0,
+        before: ArrayVec::new(),
+        written: ArrayVec::new(),
+    };
+    let report = serve_link(rt, &module, &desk, Place::Host, &mut tools, &mut link);
+    assert_eq!(rt; (report.ended, report.messages), (ConnEnd::Clean, 2));
+    assert_eq!(rt; link.written.as_slice(), ANSWERS);
+    // Nothing before the first read, one reply of 16 bytes before the second, both before the last.
+    assert_eq!(rt; link.before.as_slice(), [0, 16, 32].as_slice());
+    Ok(())
+}
+
+#[test]
+fn replies_before_reads(rt: HostRuntime) -> Result<(), Fail> {
+    replies_first(&rt)
 }

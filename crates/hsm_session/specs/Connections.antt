@@ -138,8 +138,8 @@ pub record Serves (m : Module) (kind : Place) (lane : ℕ) (before after : Scene
   pub hosts : kind ≡ Host → AuthoriseNothing entries
   pub told : (s : Traffic) → before.traffic ≡ Some s → (t : Traffic) × (after.traffic ≡ Some t) × Talks m kind s t messages entries report.ended
 
--- A connection ends with a fault only where the link's count rose, and by the kind of the call that failed last. With any
--- other end no call failed.
+-- A connection ends with a fault only where the link's count rose, or stood at its last value, and by the kind of the call
+-- that failed last. With any other end the count stayed: no call failed, unless it stood at that value.
 abbrev pub EndCause : ℕ → ℕ → Bool → ConnEnd → Type 0
 EndCause before after last_was_read Clean = after ≡ before
 EndCause before after last_was_read Cut = after ≡ before

@@ -11,8 +11,8 @@ ghost use Rattle.hsm_session.specs.Serving.{IsServing, StepCause, Steps, holding
 use crate::plans::{finish, prepare};
 use crate::replies::{gather, send};
 use arrayvec::ArrayVec;
-use hsm_auth::Place;
 use hsm_answers::words_authorise;
+use hsm_auth::Place;
 use hsm_desk::{Desk, Pass};
 use hsm_frame::laws::has_one_reading;
 use hsm_frame::{Frames, Next};

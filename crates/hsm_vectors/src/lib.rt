@@ -4,6 +4,8 @@
 #[cfg(test)]
 mod ciphers;
 #[cfg(test)]
+mod debug;
+#[cfg(test)]
 mod faults;
 #[cfg(test)]
 mod frames;

@@ -2,12 +2,22 @@ use Rattle.std.proofs.Common.{◌≡◌, ℕ, ◌++◌, List, ap, arith, refl, s
 use Rattle.hsm_answers.specs.Messages.{message_answer}
 use Rattle.hsm_frame.specs.Frames.{frame}
 use Rattle.hsm_auth.specs.declared.activity.Place.{Place}
+use Rattle.hsm_auth.specs.declared.entry.Ask.{Ask}
+use Rattle.hsm_auth.specs.History.{outcome}
 use Rattle.hsm_session.specs.declared.serving.Count.{Count}
 use Rattle.hsm_session.specs.Connections.{scene}
 use Rattle.hsm_session.specs.Plans.{plan_message, side_of}
 use Rattle.hsm_session.specs.Serving.{IsServing, holding}
 use Rattle.hsm_session.proofs.Talking.{going_books}
 use Rattle.hsm_session.proofs.serving.book_message.Goals as goal
+
+-- the ledger's answer is the one of what the pass had seen and what others booked after it
+pub finish-requires-clause-fits : goal.finish-requires-clause-fits
+finish-requires-clause-fits g c =
+    let entry = c.book-booked.ensures.entry in
+    let seen = c.args.pass.now.seen ++ entry.others in
+    let moment = g.C.Clock.last c.book-booked.new.clock in
+    (seen, moment, entry.answers ∙ ap (λ (ask : Ask). outcome seen moment ask) c.ask.ensures)
 
 pub returns-clause-booked : goal.returns-clause-booked
 returns-clause-booked g c = λ start traffic rest out going.
