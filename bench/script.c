@@ -3,8 +3,8 @@
 //     script keys TURNS        the key messages: TURNS turns of four
 //     script pins FILE ROUNDS  the PIN and card messages: those of FILE, which bench/load.py wrote, ROUNDS times over
 //
-// All are under LMK set T. A schedule is made once for each different single part of a key that is used in opening or
-// sealing a key, or in enciphering under one, and is kept for no longer: those of the LMKs, which never change, could be
+// All are under the test set of LMK pairs. A schedule is made once for each different single part of a key that is used
+// in opening or sealing a key, or in enciphering under one, and is kept for no longer: those of the LMKs, which never change, could be
 // kept over all messages, and a program that keeps them does less. A block is one single-part DES. Three of them in a
 // row, as a key of two parts needs, are done in one call of libcrypto, which is its fastest form. The two texts of a
 // key with tag U share the schedule of the wrapping key's first part.

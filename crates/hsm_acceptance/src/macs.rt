@@ -1,4 +1,4 @@
-// The MAC commands: messages and their whole answers, without header. bench/data_rows.py computes them.
+// The MAC commands: messages and their whole answers, without header. model/data_rows.py computes them.
 use crate::laboratory::{Set, answers, answers_under};
 use std::test::Fail;
 
