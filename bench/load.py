@@ -6,8 +6,8 @@
 FOLDER gets three files. `pins.script` has COUNT messages, in turn CA, CC, DA, EA, DC, EC and CY, each one a line of
 lane 1 under the test set; `pins.output` is what it prints, each answer being 00. `pins.work` is for bench/script.c:
 the count in four bytes, the least significant first, sixteen bytes for each of KEYS below, then for each message a byte
-for its kind, 0 to 6, and four blocks: what is given, a second block, and what two steps of the work must come to. No message
-has its fill drawn. It needs the command openssl. Nothing of the crates is used.
+for its kind, 0 to 6, and four blocks: what is given, a second block, and what two steps of the work must come to. No
+message has its fill drawn. It needs the command openssl. Nothing of the crates is used.
 """
 import os
 import sys

@@ -16,9 +16,9 @@ line is one of these:
     T 36000                         a moment
     # a remark, or nothing
 
-The fields of messages and replies are those of commands.txt, which lies beside this file. Exit status: 0 all lines read;
-1 a line does not read, with `frames.py: line N: CAUSE` on standard error and nothing on standard output; 2 the words are
-wrong; 3 a file can't be read. It needs the standard library alone.
+The fields of messages and replies are those of commands.txt, which lies beside this file. Exit status: 0 all lines
+read; 1 a line does not read, with `frames.py: line N: CAUSE` on standard error and nothing on standard output; 2 the
+words are wrong; 3 a file can't be read. It needs the standard library alone.
 """
 import os
 import re
@@ -85,7 +85,8 @@ def bytes_of(text, column=0):
             place = found.end()
             continue
         if text[place] in "{}" or not " " <= text[place] <= "~":
-            raise Wrong(f"column {column + place + 1}: {text[place]!r} is no character of a message: write it as {{19}}")
+            told = f"{text[place]!r} is no character of a message: write it as {{19}}"
+            raise Wrong(f"column {column + place + 1}: {told}")
         data += text[place].strip()
         place += 1
     return data

@@ -5,9 +5,9 @@
 
 Start `hsm_tool serve examples/laboratory.toml` first. FILE becomes a pcap file of TCP segments between 127.0.0.1 and
 itself, as tshark and Wireshark read it; no leave to capture is needed, since the bytes are those that this client sent
-and got. With --segment each segment holds at most so many bytes, so that frames lie over several. Exit status: 0 the day
-was as it should be; 1 something differed or no reply came; 2 the words are wrong; 3 FILE can't be written. It needs the
-standard library alone.
+and got. With --segment each segment holds at most so many bytes, so that frames lie over several. Exit status: 0 the
+day was as it should be; 1 something differed or no reply came; 2 the words are wrong; 3 FILE can't be written. It needs
+the standard library alone.
 """
 import os
 import re
