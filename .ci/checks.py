@@ -1,7 +1,7 @@
 """How a script of .ci/ lists its checks, runs them, and tells how each ended.
 
-A line for each check, `SCRIPT: passed: NAME`, `SCRIPT: failed: NAME: CAUSE` or `SCRIPT: skipped: NAME: WORD`, and at the end
-`SCRIPT: N checks`: .ci/program counts these.
+A line for each check, `SCRIPT: passed: NAME`, `SCRIPT: failed: NAME: CAUSE` or `SCRIPT: skipped: NAME: WORD`, and at
+the end `SCRIPT: N checks`: .ci/program counts these.
 """
 CHECKS = []
 
