@@ -4,14 +4,17 @@
     bench/load.py FOLDER COUNT
 
 FOLDER gets three files. `pins.script` has COUNT messages, in turn CA, CC, DA, EA, DC, EC and CY, each one a line of
-lane 1 under set T; `pins.output` is what it prints, each answer being 00. `pins.work` is for bench/script.c: the count
-in four bytes, the least significant first, sixteen bytes for each of KEYS below, then for each message a byte for its
-kind, 0 to 6, and four blocks: what is given, a second block, and what two steps of the work must come to. No message
-has its fill drawn. It needs the command openssl. Nothing of the crates is used.
+lane 1 under the test set; `pins.output` is what it prints, each answer being 00. `pins.work` is for bench/script.c:
+the count in four bytes, the least significant first, sixteen bytes for each of KEYS below, then for each message a byte
+for its kind, 0 to 6, and four blocks: what is given, a second block, and what two steps of the work must come to. No
+message has its fill drawn. It needs the command openssl. Nothing of the crates is used.
 """
+import os
 import sys
 
-from hsm_values import (
+sys.path.insert(0, os.path.join(os.path.dirname(os.path.dirname(os.path.abspath(__file__))), "model"))
+
+from hsm_values import (  # noqa: E402
     CARD, TERMINAL, VERIFICATION, ZONE, check_known, drawn, encipher, exclusive_or, line, offset, parts_of, pin_block,
     sealed, selected, validation_block, wrapping_pair)
 

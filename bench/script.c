@@ -3,11 +3,11 @@
 //     script keys TURNS        the key messages: TURNS turns of four
 //     script pins FILE ROUNDS  the PIN and card messages: those of FILE, which bench/load.py wrote, ROUNDS times over
 //
-// All are under LMK set T. A schedule is made once for each different single part of a key that is used in opening or
-// sealing a key, or in enciphering under one, and is kept for no longer: those of the LMKs, which never change, could be
-// kept over all messages, and a program that keeps them does less. A block is one single-part DES. Three of them in a
-// row, as a key of two parts needs, are done in one call of libcrypto, which is its fastest form. The two texts of a
-// key with tag U share the schedule of the wrapping key's first part.
+// All are under the test set of LMK pairs. A schedule is made once for each different single part of a key that is used
+// in opening or sealing a key, or in enciphering under one, and is kept for no longer: those of the LMKs, which never
+// change, could be kept over all messages, and a program that keeps them does less. A block is one single-part DES.
+// Three of them in a row, as a key of two parts needs, are done in one call of libcrypto, which is its fastest form.
+// The two texts of a key with tag U share the schedule of the wrapping key's first part.
 //
 //     message                                     schedules                          blocks
 //     A0 of 001, U: seal; check value             3 + 2                  = 5         6 + 3          = 9
@@ -26,9 +26,9 @@
 //
 // A turn of key messages has 23 schedules and 43 blocks; the key that A0 draws is stood for by digits that change with
 // each turn, since its drawing is no DES work, and the answers to the last three messages are printed, without header.
-// Seven PIN and card messages have 62 schedules and 118 blocks. How a PIN is taken out of its block and put into another
-// is no DES work: the exclusive-or of the two clear blocks stands in FILE, and so do the blocks that the work must come
-// to. The number of messages that came to them is printed.
+// Seven PIN and card messages have 62 schedules and 118 blocks. How a PIN is taken out of its block and put into
+// another is no DES work: the exclusive-or of the two clear blocks stands in FILE, and so do the blocks that the work
+// must come to. The number of messages that came to them is printed.
 #define OPENSSL_SUPPRESS_DEPRECATED
 #include <openssl/des.h>
 #include <stdint.h>

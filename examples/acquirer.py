@@ -7,9 +7,9 @@ Start `hsm_tool serve examples/laboratory.toml` first. Without ports, the consol
 file are taken. Each step prints a line. Exit status: 0 all was answered as it should be; 1 something differed, which
 the last line says, or no reply came; 2 the words are neither nothing nor two ports.
 
-The module must have the test set of LMK pairs, a header of 4 characters, and officers whose words are abc and hello. The
-keys are drawn by the module, so their texts differ each day: what is checked is that replies fit each other. The console's
-activities are cancelled at the beginning. It needs the standard library alone.
+The module must have the test set of LMK pairs, a header of 4 characters, and officers whose words are abc and hello.
+The keys are drawn by the module, so their texts differ each day: what is checked is that replies fit each other. The
+console's activities are cancelled at the beginning. It needs the standard library alone.
 """
 import os
 import re

@@ -1,4 +1,4 @@
-// The card commands: messages and their whole answers, without header. bench/data_rows.py computes them.
+// The card commands: messages and their whole answers, without header. model/data_rows.py computes them.
 use crate::laboratory::answers;
 use std::test::Fail;
 

@@ -1,4 +1,4 @@
-// Console texts and host messages in one script: lines, and what each prints. bench/console_rows.py computes them. The
+// Console texts and host messages in one script: lines, and what each prints. model/console_rows.py computes them. The
 // last entry of a table is the end of the script.
 use crate::laboratory::{end_of, prints};
 use hsm_laboratory::Set;

@@ -1,5 +1,5 @@
 // Echo, the check of the LMKs and the numbers of grants and hosts: messages and their whole answers, without header.
-// bench/data_rows.py computes them.
+// model/data_rows.py computes them.
 use crate::laboratory::answers;
 use std::test::Fail;
 

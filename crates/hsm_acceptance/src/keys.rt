@@ -1,4 +1,4 @@
-// The key commands under set T: messages and their whole answers, without header. bench/key_rows.py computes them.
+// The key commands under the test set: messages and their whole answers, without header. model/key_rows.py computes them.
 use crate::laboratory::answers;
 use std::test::Fail;
 

@@ -88,7 +88,7 @@ pub(crate) fn answers_under(
     runs(rt, set, &script, &output, end_of(entries, 0, 0))
 }
 
-// The same under set T.
+// The same under the test set.
 pub(crate) fn answers(
     rt: &(impl Abort + Alloc<A = Global>),
     cases: &[(&[u8], &[u8])],

@@ -1,4 +1,4 @@
-// The MAC commands: messages and their whole answers, without header. bench/data_rows.py computes them.
+// The MAC commands: messages and their whole answers, without header. model/data_rows.py computes them.
 use crate::laboratory::{answers, answers_under};
 use hsm_laboratory::Set;
 use std::test::Fail;

@@ -1,4 +1,4 @@
-// The PIN commands: messages and their whole answers, without header. bench/pin_rows.py computes them.
+// The PIN commands: messages and their whole answers, without header. model/pin_rows.py computes them.
 use crate::laboratory::{answers, answers_under};
 use hsm_laboratory::Set;
 use std::test::Fail;

@@ -1,4 +1,4 @@
-// A PIN in the clear that a lane is to show while the console cancels the activity, under set T.
+// A PIN in the clear that a lane is to show while the console cancels the activity, under the test set.
 ghost use Rattle.std.specs.Prelude.{◌≡◌, None};
 
 use crate::lanes::{add, clock_of, door_of, run_all, take_last, told};

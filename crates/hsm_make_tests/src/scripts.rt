@@ -1,4 +1,4 @@
-//! Made scripts and their summaries, computed by bench/make_rows.py.
+//! Made scripts and their summaries, computed by model/make_rows.py.
 use hsm_io::Sink;
 use hsm_make::{made_module, made_script, put_summary};
 use hsm_tally::Tally;

@@ -1,5 +1,5 @@
 // Two hosts and the console over sockets, of which the first host is held until the second was answered; then an acquirer's day of the first.
-// bench/socket_rows.py computes the messages.
+// model/socket_rows.py computes the messages.
 ghost use Rattle.std.specs.Prelude.{None, All};
 ghost use Rattle.std.specs.Thread.{IsSync};
 ghost use Rattle.hsm_server.specs.Lanes.{IsReady, lane_state};

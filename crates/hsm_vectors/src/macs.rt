@@ -1,4 +1,4 @@
-// MACs of ISO 9797-1, whole and in parts. bench/mac_values.py prints the values, from OpenSSL's DES.
+// MACs of ISO 9797-1, whole and in parts. model/mac_values.py prints the values, from OpenSSL's DES.
 use hsm_mac::{Alg, Mac, Pad, Uneven, whole};
 use hsm_tdes::Key;
 use std::test::Fail;

@@ -52,7 +52,7 @@ fn blocks(rt: HostRuntime) -> Result<(), Fail> {
     Ok(())
 }
 
-// The values of cards are those that bench/card_values.py prints, from OpenSSL's DES.
+// The values of cards are those that model/card_values.py prints, from OpenSSL's DES.
 #[test]
 fn values(rt: HostRuntime) -> Result<(), Fail> {
     assert_eq!(rt;

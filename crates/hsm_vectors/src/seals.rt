@@ -20,7 +20,7 @@ fn counted_pairs() -> [[u8; 16]; 20] {
     pairs
 }
 
-// The texts of schemes U, T and Y are those of bench/sealed_texts.py, which calls OpenSSL.
+// The texts of schemes U, T and Y are those of model/sealed_texts.py, which calls OpenSSL.
 #[test]
 fn texts(rt: HostRuntime) -> Result<(), Fail> {
     let pair = [

@@ -1,9 +1,9 @@
 #!/usr/bin/env python3
 """Prints messages of A0, A6, A8 and BU and their whole answers, computed by OpenSSL's DES and ChaCha20.
 
-    bench/key_rows.py [cases] [GROUP..]     each message and its answer, without the header, as byte strings
-    bench/key_rows.py script GROUP          the group's messages as the lines of a script
-    bench/key_rows.py output GROUP          what that script prints under set T
+    model/key_rows.py [cases] [GROUP..]     each message and its answer, without the header, as byte strings
+    model/key_rows.py script GROUP          the group's messages as the lines of a script
+    model/key_rows.py output GROUP          what that script prints under the test set
 
 The groups are a0, a6, a8, bu, trailers and draws; crates/hsm_acceptance/src/keys.rt has their cases. Each group is one
 script, so that its draws begin at place 0. The header is 0001, the seed is 32 zero bytes and no grant lives. The codes

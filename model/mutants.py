@@ -1,14 +1,14 @@
 #!/usr/bin/env python3
 """Writes a script of changed messages and texts, and what it prints, to compare a program with.
 
-    bench/mutants.py FOLDER SEED COUNT [CODE..]
+    model/mutants.py FOLDER SEED COUNT [CODE..]
 
-FOLDER gets `mutants.script`, with COUNT messages and texts over two lanes and the console under set T, and
+FOLDER gets `mutants.script`, with COUNT messages and texts over two lanes and the console under the test set, and
 `mutants.output`. Each is one of those that the other scripts here print, as it stands or with a character changed, put
 in, left out or doubled, cut short, or with a trailer; officers allow and cancel activities between them. With CODEs,
 only messages of these commands are used, and no console texts. What the program prints must be the output:
 
-    hsm_tool script .. bench/out/mutants.script | cmp - bench/out/mutants.output
+    hsm_tool script .. model/out/mutants.script | cmp - model/out/mutants.output
 
 The answers are those of hsm_model.py. It needs the command openssl. Nothing of the crates is used.
 """

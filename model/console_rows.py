@@ -1,20 +1,21 @@
 #!/usr/bin/env python3
 """Prints scripts of console texts and host messages and what they print, computed by OpenSSL's DES and ChaCha20.
 
-    bench/console_rows.py [cases] [GROUP..]     each line of a script and what it prints, as texts
-    bench/console_rows.py script GROUP          the group's script
-    bench/console_rows.py output GROUP          what it prints
+    model/console_rows.py [cases] [GROUP..]     each line of a script and what it prints, as texts
+    model/console_rows.py script GROUP          the group's script
+    model/console_rows.py output GROUP          what it prints
 
-The groups are keys, pins, components, texts, full, notes and lanes under set T, and grants under E1;
-crates/hsm_acceptance/src/consoles.rt has their cases. The header is 0001, there are two host lanes, the officers' words
-are abc and hello. The answers are those of hsm_model.py. It needs the command openssl. Nothing of the crates is used.
+The groups are keys, pins, components, texts, full, notes and lanes under the test set, and grants under that of
+equal_pairs.toml; crates/hsm_acceptance/src/consoles.rt has their cases. The header is 0001, there are two host lanes,
+the officers' words are abc and hello. The answers are those of hsm_model.py. It needs the command openssl. Nothing of
+the crates is used.
 """
 import sys
 
 from hsm_model import Hsm, Lines, run_script
 from hsm_values import (
-    ONE, SET_E1, SET_E2, THREE, TWO, TYPES, check_known, check_value, drawn, exclusive_or, line, sealed, sealed_pin,
-    wrapped)
+    ONE, SET_EQUAL, SET_EQUAL_BUT_14, THREE, TWO, TYPES, check_known, check_value, drawn, exclusive_or, line, sealed,
+    sealed_pin, wrapped)
 
 ACCOUNT = "123456789012"
 WORDS = " abc hello"
@@ -23,7 +24,7 @@ ZMK = sealed("000", "U", TWO)
 
 def grants():
     """A grant with an end is gone at that moment, and does not come back."""
-    s = Lines(SET_E1)
+    s = Lines(SET_EQUAL)
     no_pin = "NG" + ACCOUNT + "85E813540F0AB405"
     s.line("T 100")
     s.console("A pin.clear.host 1" + WORDS, "OK")
@@ -248,12 +249,13 @@ def check_worked():
     answered = "L1 000E3030303142563030443544343446\n"
     pieces = "".join(f"L1 {asked[i:i + 2]}\n" for i in range(3, 57, 2))
     for lmks, script, output in [
-            (SET_E1, asked, answered + "END 1\n"), (SET_E1, pieces, answered + "END 1\n"),
-            (SET_E1, "L1 00053030303142\n" + asked, "L1 short 5\nL1 closed\nEND 0\n"),
-            (SET_E1, "L1 0000", "L1 short 0\nEND 0\n"), (SET_E1, asked + "L1 0019", answered + "L1 cut\nEND 1\n"),
-            (SET_E2, "L1 001930303031425530323031373636384446433732393235333244", "L1 00083030303142563130\nEND 1\n"),
-            (SET_E1, "L1 0006303030315A5A", "L1 0008303030315A5B3638\nEND 1\n"),
-            (SET_E1, "L1 00083030303142553031", "L1 00083030303142563035\nEND 1\n"), (SET_E1, "", "END 0\n")]:
+            (SET_EQUAL, asked, answered + "END 1\n"), (SET_EQUAL, pieces, answered + "END 1\n"),
+            (SET_EQUAL, "L1 00053030303142\n" + asked, "L1 short 5\nL1 closed\nEND 0\n"),
+            (SET_EQUAL, "L1 0000", "L1 short 0\nEND 0\n"), (SET_EQUAL, asked + "L1 0019", answered + "L1 cut\nEND 1\n"),
+            (SET_EQUAL_BUT_14, "L1 001930303031425530323031373636384446433732393235333244",
+             "L1 00083030303142563130\nEND 1\n"),
+            (SET_EQUAL, "L1 0006303030315A5A", "L1 0008303030315A5B3638\nEND 1\n"),
+            (SET_EQUAL, "L1 00083030303142553031", "L1 00083030303142563035\nEND 1\n"), (SET_EQUAL, "", "END 0\n")]:
         assert run_script(Hsm(lmks), script.encode())[0] == output.encode(), script
     assert run_script(Hsm(), b"T 5\nL3 00") == 2
     assert run_script(Hsm(), b"L1 00\n\n#\nL2 00\nC VA\nl1 00") == 6

@@ -1,20 +1,20 @@
 #!/usr/bin/env python3
 """Prints messages of the card, MAC and echo commands and their whole answers, computed by OpenSSL's DES.
 
-    bench/data_rows.py [cases] [GROUP..]    each message and its answer, without the header, as byte strings
-    bench/data_rows.py script GROUP         the group's messages as the lines of a script
-    bench/data_rows.py output GROUP         what that script prints
+    model/data_rows.py [cases] [GROUP..]    each message and its answer, without the header, as byte strings
+    model/data_rows.py script GROUP         the group's messages as the lines of a script
+    model/data_rows.py output GROUP         what that script prints
 
-The groups are cvvs (CW, CY), macs (M6), compared (M8), echo (B2, NC) and counts (NO, RA) under set T, and e1 under that
-set; crates/hsm_acceptance/src/cards.rt, macs.rt and diagnostics.rt have their cases. Each group is one script. The
-header is 0001 and no grant lives. The answers are those of hsm_model.py. It needs the command openssl. Nothing of the
-crates is used.
+The groups are cvvs (CW, CY), macs (M6), compared (M8), echo (B2, NC) and counts (NO, RA) under the test set, and
+equal_pairs under the set of that example; crates/hsm_acceptance/src/cards.rt, macs.rt and diagnostics.rt have their
+cases. Each group is one script. The header is 0001 and no grant lives. The answers are those of hsm_model.py. It needs
+the command openssl. Nothing of the crates is used.
 """
 import sys
 
 from hsm_model import Hsm, Messages, check_codes
 from hsm_values import (
-    AUTHENTICATION, CARD, EVEN_ONE, EVEN_TWO, ONE, SET_E1, THREE, TWO, cvv, encipher, exclusive_or, mac_chain,
+    AUTHENTICATION, CARD, EVEN_ONE, EVEN_TWO, ONE, SET_EQUAL, THREE, TWO, cvv, encipher, exclusive_or, mac_chain,
     mac_value, print_groups, sealed, selected)
 
 TEXT = b"7654321 Now is the time for "
@@ -170,9 +170,9 @@ def counts():
     return g
 
 
-def e1():
+def equal_pairs():
     z = "85E813540F0AB405"
-    g = Messages(SET_E1)
+    g = Messages(SET_EQUAL)
     g.add("M600011008" + z + counted(TEXT))
     first = mac_chain(ONE, "1", bytes(8), TEXT[:16])
     g.add("M610011008" + z + counted(TEXT[:16]))
@@ -187,7 +187,7 @@ def e1():
     return g
 
 
-GROUPS = {"cvvs": cvvs, "macs": macs, "compared": compared, "echo": echo, "counts": counts, "e1": e1}
+GROUPS = {"cvvs": cvvs, "macs": macs, "compared": compared, "echo": echo, "counts": counts, "equal_pairs": equal_pairs}
 CODES = {
     "CW": "00 10 15", "CY": "00 01 10 15", "M6": "00 04 10 15 27 80", "M8": "00 01 04 10 15 27 80", "B2": "00 15",
     "NC": "00 15", "NO": "00 15", "RA": "00 15"}

@@ -1,20 +1,21 @@
 #!/usr/bin/env python3
 """Prints messages of the PIN commands and their whole answers, computed by OpenSSL's DES and ChaCha20.
 
-    bench/pin_rows.py [cases] [GROUP..]     each message and its answer, without the header, as byte strings
-    bench/pin_rows.py script GROUP          the group's messages as the lines of a script
-    bench/pin_rows.py output GROUP          what that script prints
+    model/pin_rows.py [cases] [GROUP..]     each message and its answer, without the header, as byte strings
+    model/pin_rows.py script GROUP          the group's messages as the lines of a script
+    model/pin_rows.py output GROUP          what that script prints
 
 The groups are known (CA, DE, DG, DC), whose answers follow from their definitions by hand, translations (CA, CC), pins
-(JA, BA, NG), offsets (DE, DA, EA) and pvvs (DG, DC, EC) under set T, e1 and e2 under those sets;
-crates/hsm_acceptance/src/pins.rt has their cases. Each group is one script, so that its draws begin at place 0. The header is 0001, the seed is 32 zero bytes and no grant lives. The answers are those of
+(JA, BA, NG), offsets (DE, DA, EA) and pvvs (DG, DC, EC) under the test set, equal_pairs and equal_pairs_but_14 under
+the sets of these examples; crates/hsm_acceptance/src/pins.rt has their cases. Each group is one script, so that its
+draws begin at place 0. The header is 0001, the seed is 32 zero bytes and no grant lives. The answers are those of
 hsm_model.py. It needs the command openssl. Nothing of the crates is used.
 """
 import sys
 
 from hsm_model import Hsm, Messages, check_codes
 from hsm_values import (
-    EVEN_TWO, ONE, SET_E1, SET_E2, TERMINAL, THREE, TWO, VERIFICATION, ZONE, encipher, enciphered_pin,
+    EVEN_TWO, ONE, SET_EQUAL, SET_EQUAL_BUT_14, TERMINAL, THREE, TWO, VERIFICATION, ZONE, encipher, enciphered_pin,
     natural_pin, offset, print_groups, pvv, sealed, sealed_pin, selected)
 
 ACCOUNT, OTHER = "123456789012", "400000123456"
@@ -258,10 +259,10 @@ def add_compared_pvvs(g):
     g.refused("EC" + ZPK + PAIR + zone + "47" + OTHER + "4" + right, "01", trailer=b"\x19end")
 
 
-def e1():
+def equal_pairs():
     """Both keys of CC have one text. NG's text is no PIN."""
     z = "85E813540F0AB405"
-    g = Messages(SET_E1)
+    g = Messages(SET_EQUAL)
     g.refused("CC" + z + z + "12D5D44FF720683D0D0101" + ACCOUNT, "24")
     g.refused("CC" + z + z + "123FA40E8A984D48150101" + ACCOUNT, "20")
     g.refused("CC" + z + z + "1217668DFC7292532D0501" + ACCOUNT, "24")
@@ -270,17 +271,18 @@ def e1():
     return g
 
 
-def e2():
+def equal_pairs_but_14():
     """The text 17668DFC7292532D opens to 1111111111111111 under pair 14-15."""
     z, even = "85E813540F0AB405", "17668DFC7292532D"
-    g = Messages(SET_E2)
+    g = Messages(SET_EQUAL_BUT_14)
     g.refused("CA" + even + z + "12D5D44FF720683D0D0101" + ACCOUNT, "10")
     g.refused("EA" + z + even + "12D5D44FF720683D0D0104" + ACCOUNT + TABLE + DATA + "4943FFFFFFFF", "11")
     return g
 
 
 GROUPS = {
-    "known": known, "translations": translations, "pins": pins, "offsets": offsets, "pvvs": pvvs, "e1": e1, "e2": e2}
+    "known": known, "translations": translations, "pins": pins, "offsets": offsets, "pvvs": pvvs,
+    "equal_pairs": equal_pairs, "equal_pairs_but_14": equal_pairs_but_14}
 
 # The codes that each command can give; those under a grant are 00 and 24 of BA, 00 and 14 of NG.
 TRANSLATED, COMPARED = "00 10 11 15 20 23 24", "00 01 10 11 15 20 23 24"

@@ -63,14 +63,14 @@ def decipher(key, text):
 # Keys under LMK pairs and wrapping keys
 
 def counted_pair(k):
-    """Pair k of set T: 8 bytes of 32 + 2k, then 8 of 96 + 2k, made odd."""
+    """Pair k of the test set: 8 bytes of 32 + 2k, then 8 of 96 + 2k, made odd."""
     return bytes([odd(32 + 2 * k)] * 8 + [odd(96 + 2 * k)] * 8)
 
 
 PAIR_E = bytes.fromhex("133457799BBCDFF1") * 2
 SET_T = [counted_pair(k) for k in range(20)]
-SET_E1 = [PAIR_E] * 20
-SET_E2 = [TWICE if k == 7 else PAIR_E for k in range(20)]
+SET_EQUAL = [PAIR_E] * 20
+SET_EQUAL_BUT_14 = [TWICE if k == 7 else PAIR_E for k in range(20)]
 
 
 def varied(key, place, variant):
@@ -334,8 +334,8 @@ def check_known():
     assert encipher(bytes.fromhex("133457799BBCDFF1"), ONE).hex().upper() == "85E813540F0AB405"
     assert encipher(ONE, bytes.fromhex("4E6F772069732074")).hex().upper() == "3FA40E8A984D4815"
     assert encipher(bytes([1] * 8), bytes(8)).hex().upper() == "8CA64DE9C1B123A7"
-    assert sealed("001", "Z", ONE, SET_E1) == "85E813540F0AB405"
-    assert lmk_check(SET_E1) == "0" * 16
+    assert sealed("001", "Z", ONE, SET_EQUAL) == "85E813540F0AB405"
+    assert lmk_check(SET_EQUAL) == "0" * 16
     for code, fill, block in [
             ("01", "", "041226CBA9876FED"), ("03", "", "1234FFFFFFFFFFFF"),
             ("05", "0" * 10, "1412340000000000"), ("47", "F" * 10, "341226CBA9876FED")]:

@@ -1,10 +1,10 @@
 #!/usr/bin/env python3
 """Prints scripts that are made of a count of messages and a seed, and what a run of one sums up to.
 
-    bench/make_rows.py numbers COUNT SEED    for each message its number, its kind and the size of its first piece
-    bench/make_rows.py script COUNT SEED     the script
-    bench/make_rows.py output COUNT SEED     what it prints under set T with one host lane
-    bench/make_rows.py summary COUNT SEED    the line of `make COUNT SEED`
+    model/make_rows.py numbers COUNT SEED    for each message its number, its kind and the size of its first piece
+    model/make_rows.py script COUNT SEED     the script
+    model/make_rows.py output COUNT SEED     what it prints under the test set with one host lane
+    model/make_rows.py summary COUNT SEED    the line of `make COUNT SEED`
 
 The answers are those of hsm_model.py. It needs the command openssl. Nothing of the crates is used.
 """
@@ -19,8 +19,8 @@ from hsm_values import HEADER, ONE, check_known, framed, sealed
 
 def numbers(count, seed):
     """The numbers of the messages (a linear congruential generator modulo 2**31)."""
-    return itertools.islice(
-        itertools.accumulate(itertools.repeat(seed % 2**31), lambda x, _: (x * 1103515245 + 12345) % 2**31), 1, count + 1)
+    stream = itertools.accumulate(itertools.repeat(seed % 2**31), lambda x, _: (x * 1103515245 + 12345) % 2**31)
+    return itertools.islice(stream, 1, count + 1)
 
 
 def kind_of(x):

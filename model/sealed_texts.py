@@ -13,5 +13,4 @@ def digits(text):
 if __name__ == "__main__":
     for code, scheme, key in [("001", "Z", TWO[:8]), ("402", "U", TWO), ("001", "T", THREE)]:
         print(code, scheme, digits(sealed(code, scheme, key)))
-    for kek, scheme, key in [(TWO, "U", TWO), (TWO, "Y", THREE), (THREE, "T", THREE)]:
-        print(kek.hex().upper(), scheme, digits(wrapped(kek, scheme, key)))
+    print(TWO.hex().upper(), "Y", digits(wrapped(TWO, "Y", THREE)))

@@ -1,0 +1,288 @@
+#!/usr/bin/env python3
+"""Readable lines for the scripts of `hsm_tool script`, and readable answers of what it prints.
+
+    python3 examples/frames.py script [FILE] [--header TEXT]    readable lines into the program's script
+    python3 examples/frames.py lines [FILE] [--header TEXT]     a script into readable lines
+    python3 examples/frames.py output [FILE] [--header TEXT]    the program's output into readable answers, with names
+
+Without FILE, standard input is read. The header, which is 0001 if none is given, goes before each message. A readable
+line is one of these:
+
+    L1 BU 01 0 85E813540F0AB405     a message of host lane 1; header and length are added, spaces are not sent
+    L1 B2 0003 A{19}B{20}           bytes by their hexadecimal digits; a space, { } and | are sent in this way alone
+    L1 EC U111 | 22 33              a frame that is cut: each part is a piece of its own
+    L1 =00063030                    a piece as it stands, in hexadecimal digits, with nothing added
+    C VA                            a text of the console, as it stands
+    T 36000                         a moment
+    # a remark, or nothing
+
+The fields of messages and replies are those of commands.txt, which lies beside this file. Exit status: 0 all lines
+read; 1 a line does not read, with `frames.py: line N: CAUSE` on standard error and nothing on standard output; 2 the
+words are wrong; 3 a file can't be read. It needs the standard library alone.
+"""
+import os
+import re
+import sys
+
+USAGE = "usage: python3 examples/frames.py script|lines|output [FILE] [--header TEXT]"
+MOST_BYTES, MOST_TEXT, MOST_MOMENT = 65535, 1000, 2**40
+TABLE = os.path.join(os.path.dirname(os.path.abspath(__file__)), "commands.txt")
+HEX = "[0-9A-Fa-f]"
+KEYS = {tag: f"{tag}{HEX}{{{digits}}}" for tag, digits in (("Z", 16), ("U", 32), ("T", 48), ("X", 32), ("Y", 48))}
+KEY = f"{HEX}{{16}}|{KEYS['Z']}|{KEYS['U']}|{KEYS['T']}"
+TYPE = "000|001|002|402|003|008|009|00A|00B"
+FORMS = {
+    "K": KEY, "P": f"{HEX}{{32}}|{KEYS['U']}", "W": f"{KEY}|{KEYS['X']}|{KEYS['Y']}", "type": TYPE,
+    "mactype": "003|008", "type2": "FF|0[012389AB]", "flag": "[012]", "scheme": "[ZUT]", "wscheme": "[ZUTXY]",
+    "format": "01|03|05|47", "len": "0[4-9]|1[012]", "[;f]": ";[01]|(?!;)", "pan": "[0-9]{12,19};",
+    "12F": "(?=.{12})[0-9]*F*", "offs": "(?=.{12})[0-9]*F*", "12V": f"(?=.{{12}}){HEX}*N{HEX}*", "0to1": "[01]",
+    "0to2": "[012]", "0to3": "[0-3]", "1or3": "[13]", "count": f"{HEX}{{4}}", "00": "00", ";": ";",
+    "hex": f"{HEX}*", "text": "[^\x19]*"}
+
+
+class Wrong(Exception):
+    """A line does not read."""
+
+
+# The table of commands
+
+class Command:
+    """A command: its reply code, what it does, and the fields of its message and of its reply."""
+
+    def __init__(self, reply, title):
+        self.reply, self.title = reply, title
+        self.fields = {">": [], "<": []}
+
+
+def read_table(path=TABLE):
+    """The commands by code, and the meanings of error codes."""
+    commands, meanings, last = {}, {}, None
+    with open(path, encoding="utf-8") as file:
+        for number, line in enumerate(file, 1):
+            words = line.rstrip("\n").split(" ", 3)
+            if line.startswith("#") or not line.strip():
+                continue
+            if words[0] in (">", "<") and len(words) == 4 and last:
+                last.fields[words[0]].append(tuple(words[1:]))
+            elif words[0] == "!" and len(words) > 2:
+                meanings[words[1]] = " ".join(words[2:])
+            elif words[0] not in ("!", ">", "<") and len(words) > 2:
+                last = commands[words[0]] = Command(words[1], " ".join(words[2:]))
+            else:
+                raise Wrong(f"{path}: line {number} is none of a command, a field and a meaning")
+    return commands, meanings
+
+
+# Texts of bytes, one character a byte
+
+def bytes_of(text, column=0):
+    """The bytes of a readable text: spaces are left out, and {19} is a byte."""
+    data, place = "", 0
+    while place < len(text):
+        found = re.compile(f"\\{{((?:{HEX}{HEX})+)\\}}").match(text, place)
+        if found:
+            data += bytes.fromhex(found[1]).decode("latin-1")
+            place = found.end()
+            continue
+        if text[place] in "{}" or not " " <= text[place] <= "~":
+            told = f"{text[place]!r} is no character of a message: write it as {{19}}"
+            raise Wrong(f"column {column + place + 1}: {told}")
+        data += text[place].strip()
+        place += 1
+    return data
+
+
+def readable(data):
+    """A text of bytes as it is written in a readable line."""
+    return re.sub(r"^=|[^!-z~]", lambda found: f"{{{ord(found[0]):02X}}}", data)
+
+
+def size_of(form, texts, rest):
+    """The number of characters of a form at the front of the rest, or None where no text of it stands."""
+    condition, _, plain = form.rpartition(":")
+    if condition and texts[0] not in ([condition] if condition == "FF" else list(condition.removeprefix("mode"))):
+        return 0
+    if (counted := re.fullmatch("([0-9]+)([NH])", plain)):
+        pattern = ("[0-9]" if counted[2] == "N" else HEX) + f"{{{counted[1]}}}"
+    elif plain == "KF":
+        pattern = {"0": f"{HEX}{{16}}|", "1": f"{HEX}{{32}}|"}.get(texts[1], "") + "|".join(KEYS[tag] for tag in "ZUT")
+    elif plain == "data":
+        return min(len(rest), int(texts[-1], 16)) if texts else len(rest)
+    elif plain == "mac":
+        pattern = HEX + ("{8}" if texts[2] == "0" else "{16}")
+    else:
+        pattern = FORMS[plain]
+    found = re.compile(f"(?:{pattern})", re.DOTALL).match(rest)
+    if not found or (plain in ("12F", "offs", "12V") and not re.fullmatch(pattern, rest[:12])):
+        return None
+    return 12 if plain in ("12F", "offs", "12V") else found.end()
+
+
+def message_fields(command, rest):
+    """The texts of a message's fields, and what follows the last one that stands."""
+    texts = []
+    for form, _, _ in command.fields[">"]:
+        size = size_of(form, texts, rest)
+        if size is None:
+            break
+        texts.append(rest[:size])
+        rest = rest[size:]
+    return texts, rest
+
+
+def reply_fields(command, rest):
+    """The texts of the fields of a reply without an error, and what follows them."""
+    texts, fields = [], command.fields["<"]
+    for place, (form, _, _) in enumerate(fields):
+        if form == "[W]":
+            after = 6 if place + 1 < len(fields) else 0
+            size = size_of("W", texts, rest) if len(rest.split("\x19")[0]) > after else 0
+        else:
+            size = size_of(form, [], rest)
+        if size is None:
+            break
+        texts.append(rest[:size])
+        rest = rest[size:]
+    return texts, rest
+
+
+# Readable lines into a script
+
+def script_line(text, header):
+    """The lines of the script that a readable line stands for."""
+    if not text or text.startswith("#"):
+        return [text]
+    word, space, rest = text.partition(" ")
+    if word == "T":
+        if not re.fullmatch("0|[1-9][0-9]*", rest) or int(rest) > MOST_MOMENT:
+            raise Wrong(f"'{rest}' is no moment: a number of at most {MOST_MOMENT}, without leading zeros")
+        return [text]
+    if word == "C":
+        if not re.fullmatch(f"[ -~]{{1,{MOST_TEXT}}}", rest):
+            raise Wrong(f"a text of the console has 1 to {MOST_TEXT} printable ASCII characters")
+        return [text]
+    if not re.fullmatch("L[1-9][0-9]*", word) or not space:
+        raise Wrong(f"'{word}' is none of L1, L2 and so on, C, T and #")
+    if rest.startswith("="):
+        if not re.fullmatch(f"({HEX}{HEX})+", rest[1:]):
+            raise Wrong("behind = stand hexadecimal digits, two for each byte")
+        return [f"{word} {rest[1:]}"]
+    pieces, column = [], len(word) + 1
+    for part in rest.split("|"):
+        pieces.append(bytes_of(part, column))
+        column += len(part) + 1
+    whole = header + "".join(pieces)
+    if not all(pieces):
+        raise Wrong("a piece holds at least one byte")
+    if len(whole) > MOST_BYTES:
+        raise Wrong(f"a message of {len(whole)} bytes with its header: a frame holds at most {MOST_BYTES}")
+    pieces[0] = len(whole).to_bytes(2, "big").decode("latin-1") + header + pieces[0]
+    return [f"{word} {digits(piece)}" for piece in pieces]
+
+
+def digits(data):
+    return data.encode("latin-1").hex().upper()
+
+
+# A script and an output into readable lines
+
+def unframed(piece, header):
+    """The message of a piece that is just one frame with the header, or None."""
+    whole = int.from_bytes(piece[:2].encode("latin-1"), "big") == len(piece) - 2
+    return piece[2 + len(header):] if whole and len(piece) > 2 and piece.startswith(header, 2) else None
+
+
+def piece_of(text):
+    word, _, rest = text.partition(" ")
+    if not re.fullmatch("L[1-9][0-9]*", word) or not re.fullmatch(f"({HEX}{HEX})+", rest):
+        raise Wrong(f"'{word}' is no line of a script: L1 and hexadecimal digits, C, T or #")
+    return word, bytes.fromhex(rest).decode("latin-1")
+
+
+def readable_line(text, header, commands):
+    """A line of a script in readable form."""
+    if not text or text[0] == "#" or re.match("[CT] ", text):
+        return script_line(text, header)[0]
+    word, piece = piece_of(text)
+    message = unframed(piece, header)
+    if message is None or len(message) < 2 or digits(piece) != text.partition(" ")[2]:
+        return f"{word} ={text.partition(' ')[2]}"
+    texts, rest = message_fields(commands[message[:2]], message[2:]) if message[:2] in commands else ([], message[2:])
+    return " ".join([word, *(readable(field) for field in [message[:2], *texts, rest] if field)])
+
+
+def readable_answer(text, header, commands, meanings):
+    """A line of the program's output in readable form."""
+    if re.fullmatch("END [0-9]+|L[1-9][0-9]* (cut|closed|short [0-9]+)", text):
+        return text
+    if text.startswith("C "):
+        cause = text.removeprefix("C NO ")
+        return text if cause == text else f"{text}  {meanings.get(cause, 'no known cause')}"
+    word, piece = piece_of(text)
+    reply = unframed(piece, header)
+    if reply is None:
+        raise Wrong(f"the answer is no frame with the header '{header}'")
+    return " ".join([word, *named_reply(reply, commands, meanings)])
+
+
+def named_reply(reply, commands, meanings):
+    """The code, the error code with its meaning, and the fields with their names."""
+    command = next((one for one in commands.values() if one.reply == reply[:2]), None)
+    code, rest = reply[2:4], reply[4:]
+    named = f"{readable(reply[:2])} {readable(code)}  {meanings.get(code, 'no known error code')}"
+    texts, rest = reply_fields(command, rest) if command and code == "00" else ([], rest)
+    parts = [f"{name} {readable(field)}" for (_, _, name), field in zip(command.fields["<"] if command else [], texts)
+             if field]
+    if rest.startswith("\x19"):
+        parts.append(f"trailer {readable(rest)}")
+    elif rest:
+        parts.append(f"then {readable(rest)}")
+    return ["; ".join([named, *parts])]
+
+
+def convert(what, text, header, commands, meanings):
+    """All lines, or the number and the cause of the first that does not read."""
+    found = []
+    for number, line in enumerate(text.split("\n")[:-1] if text.endswith("\n") else text.split("\n"), 1):
+        try:
+            if what == "script":
+                found += script_line(line, header)
+            elif what == "lines":
+                found.append(readable_line(line, header, commands))
+            elif line:
+                found.append(readable_answer(line, header, commands, meanings))
+        except Wrong as wrong:
+            raise Wrong(f"line {number}: {wrong}") from None
+    return "".join(line + "\n" for line in found)
+
+
+def main(words):
+    header = "0001"
+    if "--header" in words[:-1]:
+        place = words.index("--header")
+        header = os.fsencode(words[place + 1]).decode("latin-1")
+        words = words[:place] + words[place + 2:]
+    if not 1 <= len(words) <= 2 or words[0] not in ("script", "lines", "output") or len(header) > 255 or any(
+            word.startswith("-") for word in words):
+        print(USAGE, file=sys.stderr)
+        return 2
+    try:
+        commands, meanings = read_table()
+        if len(words) == 2:
+            with open(words[1], encoding="latin-1", newline="\n") as file:
+                text = file.read()
+        else:
+            text = sys.stdin.buffer.read().decode("latin-1")
+    except OSError as error:
+        print(f"frames.py: {error.filename}: {error.strerror}", file=sys.stderr)
+        return 3
+    try:
+        sys.stdout.buffer.write(convert(words[0], text, header, commands, meanings).encode("latin-1"))
+    except Wrong as wrong:
+        print(f"frames.py: {wrong}", file=sys.stderr)
+        return 1
+    return 0
+
+
+if __name__ == "__main__":
+    sys.exit(main(sys.argv[1:]))
