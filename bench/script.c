@@ -2,6 +2,8 @@
 //
 //     script keys TURNS        the key messages: TURNS turns of four
 //     script pins FILE ROUNDS  the PIN and card messages: those of FILE, which bench/load.py wrote, ROUNDS times over
+//     script made COUNT SEED ROUNDS
+//                              the messages that `make COUNT SEED` makes, ROUNDS times over
 //
 // All are under the test set of LMK pairs. A schedule is made once for each different single part of a key that is used
 // in opening or sealing a key, or in enciphering under one, and is kept for no longer: those of the LMKs, which never
@@ -23,12 +25,16 @@
 //         (untagged), decipher the block, PVV     3 + 2 + 2 + 2          = 9         6 + 6 + 3 + 3  = 18
 //     CY: open the pair (untagged), one block
 //         under its first key, CVV                2 + 2                  = 4         6 + 1 + 3      = 10
+//     JA: seal the PIN                            2                      = 2         3              = 3
 //
 // A turn of key messages has 23 schedules and 43 blocks; the key that A0 draws is stood for by digits that change with
 // each turn, since its drawing is no DES work, and the answers to the last three messages are printed, without header.
 // Seven PIN and card messages have 62 schedules and 118 blocks. How a PIN is taken out of its block and put into
 // another is no DES work: the exclusive-or of the two clear blocks stands in FILE, and so do the blocks that the work
 // must come to. The number of messages that came to them is printed.
+//
+// Of made messages A0, JA and BU need DES: about three of five. What A0 and JA draw is stood for by digits that change.
+// The numbers of messages, of those that are answered without an error and of the other ones are printed.
 #define OPENSSL_SUPPRESS_DEPRECATED
 #include <openssl/des.h>
 #include <stdint.h>
@@ -259,6 +265,41 @@ static int pin_messages(const char *name, long rounds)
     return 0;
 }
 
+static int made_messages(long count, long seed, long rounds)
+{
+    Part pair_of_zpk[2], pair_of_pins[2], drawn[2] = {{1}, {2}}, sealed[2], single[1], value, pin = {3};
+    memset(pair_of_zpk[0], 0x26, 8), memset(pair_of_zpk[1], 0x67, 8);
+    memset(pair_of_pins[0], 0x23, 8), memset(pair_of_pins[1], 0x62, 8);
+    long refused = 0;
+    for (long round = 0; round < rounds; round++) {
+        uint32_t x = (uint32_t)seed % 0x80000000u;
+        refused = 0;
+        for (long i = 0; i < count; i++) {
+            x = (x * UINT32_C(1103515245) + 12345) % 0x80000000u;
+            switch (x / 65536 % 5) {
+            case 1:
+                by_scheme_u(pair_of_zpk, drawn, 1, sealed);
+                check_two(drawn, value);
+                memcpy(drawn[0], sealed[0], 8);
+                exclusive_or(drawn[1], value);
+                break;
+            case 2:
+                under_two(pair_of_pins, pin, 1, pin);
+                break;
+            case 3:
+                open_plain(pair_of_zpk, &single_text, 1, single);
+                check_one(single[0], value);
+                break;
+            case 4:
+                refused++;
+            }
+        }
+    }
+    printf("MADE %ld %ld %ld\n", count, count - refused, refused);
+    // A use of what was sealed last, so that no compiler leaves it out.
+    return drawn[0][0] == sealed[0][0] && pin[0] + 1 ? 0 : 1;
+}
+
 int main(int count, char **arguments)
 {
     const long times = count > 2 ? strtol(arguments[count - 1], NULL, 10) : 0;
@@ -266,5 +307,7 @@ int main(int count, char **arguments)
         return key_messages(times);
     if (times >= 1 && count == 4 && !strcmp(arguments[1], "pins"))
         return pin_messages(arguments[2], times);
+    if (times >= 1 && count == 5 && !strcmp(arguments[1], "made"))
+        return made_messages(strtol(arguments[2], NULL, 10), strtol(arguments[3], NULL, 10), times);
     return 1;
 }

@@ -1,4 +1,4 @@
-// Answers of ZW under set T, computed by bench/hsm_values.py over OpenSSL: the PVV of index 1 for the PIN 1234 and the
+// Answers of ZW under the test set, computed by model/hsm_values.py over OpenSSL: the PVV of index 1 for the PIN 1234 and the
 // account 123456789012, the PIN's length, and the check value of the pair.
 use crate::{finish, prepare};
 use hsm_auth::Ledger;

@@ -6,14 +6,14 @@ use Rattle.hsm_config.specs.declared.pairs.TheConstants.{TEST_PAIRS}
 use Rattle.toml.specs.Data.{Data, Members}
 use lib.Count.{ones}
 
-test_set : TEST_PAIRS ≡ test_pairs
+pub test_set : TEST_PAIRS ≡ test_pairs
 unfolding test_pairs ones
 test_set = refl
 
 pub is_test_set : (document : Members) → is_test (string_at (codes "lmk") document) ≡ true
-    → Some TEST_PAIRS ≡ (if has_pairs document then Some (pairs_of document) else None)
+    → Some test_pairs ≡ (if has_pairs document then Some (pairs_of document) else None)
 unfolding pairs_of
-is_test_set document is = rw is (ap Some test_set)
+is_test_set document is = rw is refl
 
 pub is_listed_set : (document : Members) (values : List Data) (r : Option (List (List ℕ))) → is_test (string_at (codes "lmk") document) ≡ false
     → values ≡ elements_at (codes "lmk") document → r ≡ (if are_hex 20 32 values then Some (all_hex_bytes values) else None)

@@ -8,3 +8,4 @@ mod ports;
 mod values;
 
 pub use configuration::{Config, ConfigFault};
+pub use pairs::test_pairs;

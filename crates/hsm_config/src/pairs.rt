@@ -5,7 +5,7 @@ ghost use Rattle.std.specs.List.{list_all};
 ghost use Rattle.toml.specs.View.{table_view};
 ghost use Rattle.hsm_parity.specs.Parity.{has_odd_parity};
 ghost use Rattle.hsm_config.specs.Document.{string_at};
-ghost use Rattle.hsm_config.specs.Rules.{are_odd, has_pairs, is_test, pairs_of};
+ghost use Rattle.hsm_config.specs.Rules.{are_odd, has_pairs, is_test, pairs_of, test_pairs};
 
 use crate::values::{all_hex_bytes, elements_at, string_at};
 use toml::Table;
@@ -35,6 +35,13 @@ const TEST_PAIRS: [[u8; 16]; 20] = [
     [0x46, 0x46, 0x46, 0x46, 0x46, 0x46, 0x46, 0x46, 0x86, 0x86, 0x86, 0x86, 0x86, 0x86, 0x86, 0x86],
 ];
 
+/// The LMK pairs of the test set, each the two parts one after another.
+pub fn test_pairs() -> [[u8; 16]; 20]
+    ensures { result ≡ test_pairs }
+{
+    TEST_PAIRS
+}
+
 // Whether the LMK set is the test set.
 fn is_test(table: &Table) -> bool
     ensures { result ≡ is_test (string_at (codes "lmk") (table_view table.now)) }
@@ -50,7 +57,7 @@ pub fn pairs_of(table: &Table) -> Option<[[u8; 16]; 20]>
     ensures { result ≡ (if has_pairs (table_view table.now) then Some (pairs_of (table_view table.now)) else None) }
 {
     if is_test(table) {
-        return Some(TEST_PAIRS);
+        return Some(test_pairs());
     }
     all_hex_bytes(elements_at(table, "lmk"))
 }

@@ -9,10 +9,10 @@ pub of_script : (words : List (List ℕ)) (command : Command) (config file : ℕ
     → ReadsWords words (Ok command) → P (word_at words config) (word_at words file) → OfScript (asked words) P
 of_script words command config file P is reads holds =
     let read = subst (λ (c : Command). ReadsWords words (Ok c)) is reads in
-    subst (λ (a : Asked). OfScript a P) (sym read.2) holds
+    subst (λ (a : Asked). OfScript a P) (sym read.3) holds
 
 pub of_check : (words : List (List ℕ)) (command : Command) (config : ℕ) (P : List ℕ → Type 0) → command ≡ Check config
     → ReadsWords words (Ok command) → P (word_at words config) → OfCheck (asked words) P
 of_check words command config P is reads holds =
     let read = subst (λ (c : Command). ReadsWords words (Ok c)) is reads in
-    subst (λ (a : Asked). OfCheck a P) (sym read.1) holds
+    subst (λ (a : Asked). OfCheck a P) (sym read.2) holds

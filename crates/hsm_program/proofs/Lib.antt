@@ -13,3 +13,4 @@ pub mod Served
 pub mod Apart
 pub mod Printing
 pub mod LocalLaws
+pub mod MadeLaws

@@ -36,7 +36,7 @@ OfficersInRuns = (m : Module) (h : List Entry) (lines : List Said) (last : List 
 abbrev pub ClearInRuns : Type 0
 ClearInRuns = (m : Module) (lines : List Said) (last : List Entry) (text : List ℕ) (over : ScriptEnd) → IsRunOf m [] lines last text over → ShowsGranted m lines last
 
-run_is : LegalRuns → OfficersInRuns → ClearInRuns → (m : Module) (bytes : List ℕ) (lines : List Said) (last : List Entry) (text : List ℕ) (over : ScriptEnd)
+pub run_is : LegalRuns → OfficersInRuns → ClearInRuns → (m : Module) (bytes : List ℕ) (lines : List Said) (last : List Entry) (text : List ℕ) (over : ScriptEnd)
     → script_of m.hosts bytes ≡ Ok lines → IsRunOf m [] lines last text over → IsRun m lines last text over
 run_is legal officers clear m bytes lines last text over reads told = record {
   told = told;

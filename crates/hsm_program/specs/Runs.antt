@@ -16,8 +16,11 @@ use Rattle.hsm_auth.specs.declared.activity.Activity.{Activity}
 use Rattle.hsm_auth.specs.declared.entry.Ask.TheVariants.{Authorise}
 use Rattle.hsm_session.specs.Clear.{IsByOfficers, IsEntryOf, IsGranted}
 use Rattle.hsm_session.specs.Runs.{IsRunOf}
+use Rattle.hsm_make.specs.Messages.{made_text}
+use Rattle.hsm_make.specs.Settings.{made_module}
+use Rattle.hsm_make.specs.Summary.{summary_of}
 use Rattle.hsm_program.specs.Files.{file_limit}
-use Rattle.hsm_program.specs.Words.{Asked, usage, serve, script, check, explain}
+use Rattle.hsm_program.specs.Words.{Asked, usage, serve, script, check, explain, make}
 use Rattle.hsm_config.specs.Configs.{config_in}
 use Rattle.hsm_config.specs.declared.configuration.Config.{Config}
 use Rattle.hsm_config.specs.declared.configuration.ConfigFault.TheVariants.{NotToml, Rule}
@@ -33,6 +36,7 @@ AnswersWords (serve config) outcome = (place : ℕ) → outcome ≡ Usage place 
 AnswersWords (script config file) outcome = (place : ℕ) → outcome ≡ Usage place → ⊥
 AnswersWords (check config) outcome = (place : ℕ) → outcome ≡ Usage place → ⊥
 AnswersWords (explain row) outcome = (place : ℕ) → outcome ≡ Usage place → ⊥
+AnswersWords (make count seed) outcome = (place : ℕ) → outcome ≡ Usage place → ⊥
 
 -- what holds of the configuration that the words name
 abbrev pub OfConfig : Asked → (List ℕ → Type 0) → Type 0
@@ -41,6 +45,7 @@ OfConfig (serve config) P = P config
 OfConfig (script config file) P = P config
 OfConfig (check config) P = P config
 OfConfig (explain row) P = Unit {0}
+OfConfig (make count seed) P = Unit {0}
 
 -- what holds of the configuration and the script's file that the words name
 abbrev pub OfScript : Asked → (List ℕ → List ℕ → Type 0) → Type 0
@@ -49,6 +54,7 @@ OfScript (serve config) P = Unit {0}
 OfScript (script config file) P = P config file
 OfScript (check config) P = Unit {0}
 OfScript (explain row) P = Unit {0}
+OfScript (make count seed) P = Unit {0}
 
 -- what holds of the configuration that the words ask to check
 abbrev pub OfCheck : Asked → (List ℕ → Type 0) → Type 0
@@ -57,6 +63,7 @@ OfCheck (serve config) P = Unit {0}
 OfCheck (script config file) P = Unit {0}
 OfCheck (check config) P = P config
 OfCheck (explain row) P = Unit {0}
+OfCheck (make count seed) P = Unit {0}
 
 -- what holds of the row that the words name
 abbrev pub OfRow : Asked → (RowShape → Type 0) → Type 0
@@ -65,6 +72,16 @@ OfRow (serve config) P = Unit {0}
 OfRow (script config file) P = Unit {0}
 OfRow (check config) P = Unit {0}
 OfRow (explain row) P = P row
+OfRow (make count seed) P = Unit {0}
+
+-- what holds of the count and the seed of the script that the words ask to make
+abbrev pub OfMade : Asked → (ℕ → ℕ → Type 0) → Type 0
+OfMade (usage place) P = Unit {0}
+OfMade (serve config) P = Unit {0}
+OfMade (script config file) P = Unit {0}
+OfMade (check config) P = Unit {0}
+OfMade (explain row) P = Unit {0}
+OfMade (make count seed) P = P count seed
 
 -- what holds where the words name no file
 abbrev pub WithoutFile : Asked → Type 0 → Type 0
@@ -73,6 +90,7 @@ WithoutFile (serve config) P = Unit {0}
 WithoutFile (script config file) P = Unit {0}
 WithoutFile (check config) P = Unit {0}
 WithoutFile (explain row) P = P
+WithoutFile (make count seed) P = P
 
 -- The outcome by the name and the bytes of the configuration's file, and the bad name. Whatever comes after the configuration
 -- comes only where they are one; a file that is too long, or that could not be opened or read, may be the script's.
@@ -160,6 +178,27 @@ AnswersRow row before after status (ScriptRefused line) = ⊥
 AnswersRow row before after status (ConfigRefused why) = ⊥
 AnswersRow row before after status Memory = ⊥
 
+-- The script that is made of a count and a seed reads, and its run from the opening ledger prints this text.
+pub record IsMadeRun (count seed : ℕ) (text : List ℕ) : Type 0 where
+  pub lines : List Said
+  pub reads : script_of made_module.hosts (made_text count seed) ≡ Ok lines
+  pub last : List Entry
+  pub over : ScriptEnd
+  pub run : IsRun made_module lines last text over
+
+-- The line that sums up the run of the made script is written and the status is 0, or a part from its front where a write failed; or memory ran out.
+abbrev pub AnswersMade : ℕ → ℕ → (List ℕ → Type 0) → (List ℕ → Type 0) → ℕ → Outcome → Type 0
+AnswersMade count seed before after status Served = (text : List ℕ) × IsMadeRun count seed text × Appends before after (summary_of count text) × (status ≡ 0)
+AnswersMade count seed before after status OutFault = (text : List ℕ) × IsMadeRun count seed text × AppendsFront before after (summary_of count text)
+AnswersMade count seed before after status Memory = Unit {0}
+AnswersMade count seed before after status (Usage place) = ⊥
+AnswersMade count seed before after status SeedFault = ⊥
+AnswersMade count seed before after status (ListenFault lane) = ⊥
+AnswersMade count seed before after status FileFault = ⊥
+AnswersMade count seed before after status FileLong = ⊥
+AnswersMade count seed before after status (ScriptRefused line) = ⊥
+AnswersMade count seed before after status (ConfigRefused why) = ⊥
+
 -- the status of each outcome of a command that is not `serve`; a configuration is not refused for want of memory
 abbrev pub HasStatus : ℕ → Outcome → Type 0
 HasStatus status Served = (status ≡ 0) ⊎ (status ≡ 6)
@@ -192,6 +231,7 @@ WritesNothing before after Memory = Stays before after
 abbrev pub FileCause : Asked → ℕ → ℕ → List ℕ → Outcome → Type 0
 FileCause (usage place) before after bad outcome = outcome ≡ FileFault → ⊥
 FileCause (explain row) before after bad outcome = outcome ≡ FileFault → ⊥
+FileCause (make count seed) before after bad outcome = outcome ≡ FileFault → ⊥
 FileCause (serve config) before after bad outcome = outcome ≡ FileFault → (Rose before after) × (bad ≡ kept_name config)
 FileCause (check config) before after bad outcome = outcome ≡ FileFault → (Rose before after) × (bad ≡ kept_name config)
 FileCause (script config file) before after bad outcome = outcome ≡ FileFault → (Rose before after) × ((bad ≡ kept_name config) ⊎ (bad ≡ kept_name file))

@@ -19,7 +19,7 @@ use Rattle.hsm_program.specs.Headline.{Headline, WhereTold}
 use Rattle.hsm_program.specs.Runs.{HasStatus}
 use Rattle.hsm_config.specs.Configs.{ports_of}
 use Rattle.hsm_program.specs.Settings.{Says}
-use Rattle.hsm_program.specs.Words.{Asked, usage, serve, script, check, explain}
+use Rattle.hsm_program.specs.Words.{Asked, usage, serve, script, check, explain, make}
 use Rattle.hsm_program.specs.declared.outcome.Outcome.{Outcome}
 use Rattle.hsm_program.specs.declared.outcome.Outcome.TheVariants.{Served, Usage, FileFault, SeedFault, ListenFault, OutFault, FileLong, ConfigRefused, ScriptRefused, Memory}
 
@@ -34,6 +34,7 @@ OfServe (serve config) P = P config
 OfServe (script config file) P = Unit {0}
 OfServe (check config) P = Unit {0}
 OfServe (explain row) P = Unit {0}
+OfServe (make count seed) P = Unit {0}
 
 -- what holds of each other command
 abbrev pub OtherThanServe : Asked → Type 0 → Type 0
@@ -42,6 +43,7 @@ OtherThanServe (serve config) P = Unit {0}
 OtherThanServe (script config file) P = P
 OtherThanServe (check config) P = P
 OtherThanServe (explain row) P = P
+OtherThanServe (make count seed) P = P
 
 -- What holds of the configuration that was read from the file of this name; where the bench tells the bytes of the file, it is the one that they are.
 pub record WithConfig (files : FileSide) (name : List ℕ) (P : Config → Type 0) : Type 0 where
@@ -153,6 +155,7 @@ HasLanes (serve config) outcome pass lanes = IsThere (has_lanes outcome) pass la
 HasLanes (script config file) outcome pass lanes = IsThere false pass lanes
 HasLanes (check config) outcome pass lanes = IsThere false pass lanes
 HasLanes (explain row) outcome pass lanes = IsThere false pass lanes
+HasLanes (make count seed) outcome pass lanes = IsThere false pass lanes
 
 -- the status of each outcome of `serve`
 abbrev pub IsServeStatus : List LaneView → ℕ → Outcome → Type 0
@@ -176,3 +179,4 @@ IsStatus (serve config) lanes status outcome = IsServeStatus lanes status outcom
 IsStatus (script config file) lanes status outcome = HasStatus status outcome
 IsStatus (check config) lanes status outcome = HasStatus status outcome
 IsStatus (explain row) lanes status outcome = HasStatus status outcome
+IsStatus (make count seed) lanes status outcome = HasStatus status outcome

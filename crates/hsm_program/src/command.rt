@@ -3,9 +3,11 @@
 ghost use Rattle.std.specs.Prelude.{◌≡◌, IfSome};
 ghost use Rattle.std.specs.Option.{option_map};
 ghost use Rattle.hsm_rows.specs.Table.{IsHostRow, host_rows, row_with, shape_of, shown_shape};
-ghost use Rattle.hsm_program.specs.Words.{ReadsWords, ReadsRest, asked_check, asked_code, asked_script, asked_serve, is_file_word, names};
+ghost use Rattle.hsm_session.specs.Scripts.{not_zero, number_within};
+ghost use Rattle.hsm_program.specs.Words.{ReadsWords, ReadsRest, asked_check, asked_code, asked_make, asked_script, asked_serve, is_file_word, names};
 
 use hsm_rows::{Row, row_of};
+use hsm_session::number_within;
 use thiserror::Error;
 
 /// What the words ask for. A place indexes the words.
@@ -19,6 +21,8 @@ pub enum Command {
     Check { config: usize },
     /// Prints the row of a host command.
     Explain { row: &'static Row },
+    /// Makes a script of 1 to 50,000 messages, runs it, and prints a line that sums up the run.
+    Make { count: u32, seed: u32 },
 }
 
 /// The words are no command.
@@ -29,7 +33,7 @@ pub enum WordsFault {
     Usage(usize),
 }
 
-/// The command of the words: `serve CONFIG`, `script CONFIG FILE`, `check CONFIG` or `explain CODE`.
+/// The command of the words: `serve CONFIG`, `script CONFIG FILE`, `check CONFIG`, `explain CODE` or `make COUNT SEED`.
 pub fn read_words(words: &[String]) -> Result<Command, WordsFault>
     ensures { ReadsWords (names words.now) result }
 {
@@ -45,6 +49,8 @@ pub fn read_words(words: &[String]) -> Result<Command, WordsFault>
         read_check(rest)
     } else if word == b"explain".as_slice() {
         read_code(rest)
+    } else if word == b"make".as_slice() {
+        read_make(rest)
     } else {
         Err(WordsFault::Usage(0))
     }
@@ -114,6 +120,47 @@ fn read_code(words: &[String]) -> Result<Command, WordsFault>
         return Err(WordsFault::Usage(2));
     }
     Ok(Command::Explain { row })
+}
+
+fn read_make(words: &[String]) -> Result<Command, WordsFault>
+    ensures { ReadsRest asked_make (names words.now) result }
+{
+    let [count, rest @ ..] = words else {
+        return Err(WordsFault::Usage(1));
+    };
+    let Some(count) = count_of(count.as_bytes()) else {
+        return Err(WordsFault::Usage(1));
+    };
+    let [seed, rest @ ..] = rest else {
+        return Err(WordsFault::Usage(2));
+    };
+    let Some(seed) = seed_of(seed.as_bytes()) else {
+        return Err(WordsFault::Usage(2));
+    };
+    if !rest.is_empty() {
+        return Err(WordsFault::Usage(3));
+    }
+    Ok(Command::Make { count, seed })
+}
+
+// The number of messages of a made script.
+fn count_of(word: &[u8]) -> Option<u32>
+    ensures { result ≡ not_zero (number_within 50000 word.now) }
+{
+    match number_within(word, 50_000) {
+        Some(0) | None => None,
+        Some(count) => Some(count as u32),
+    }
+}
+
+// The seed of a made script.
+fn seed_of(word: &[u8]) -> Option<u32>
+    ensures { result ≡ number_within 4294967295 word.now }
+{
+    match number_within(word, 4_294_967_295) {
+        Some(seed) => Some(seed as u32),
+        None => None,
+    }
 }
 
 // The host row of a word. Each host code has two bytes.

@@ -1,11 +1,12 @@
-//! The program's commands over the outside as traits: a script, a check of a configuration, a row of the table, and lanes
-//! served on threads.
+//! The program's commands over the outside as traits: a script, a check of a configuration, a row of the table, a script that
+//! is made, and lanes served on threads.
 #![tactic(auto)]
 
 mod command;
 mod ends;
 mod lanes;
 mod local;
+mod made;
 mod outcome;
 mod reading;
 mod run;

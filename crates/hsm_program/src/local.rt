@@ -1,4 +1,4 @@
-//! The commands that one thread does: a script, a check of a configuration, and a row of the table.
+//! The commands that one thread does: a script, a check of a configuration, a row of the table, and a script that is made.
 
 ghost use Rattle.std.specs.Prelude.{◌≡◌, ◌<◌, ◌≤◌, ◌⊎◌, ℕ, List, Some, false, true, IfErr, IfOk, IsErrOf, IsTrue, length, Ok};
 ghost use Rattle.hsm_io.specs.Outside.{Rose};
@@ -10,11 +10,12 @@ ghost use Rattle.hsm_program.specs.Files.{FilesStay, ReadsFile};
 ghost use Rattle.hsm_config.specs.Configs.{ports_of};
 ghost use Rattle.hsm_program.specs.Settings.{Says, run_module};
 ghost use Rattle.hsm_program.specs.Words.{ReadsWords, IsLocal, asked, names, word_at};
-ghost use Rattle.hsm_program.specs.Runs.{AnswersCheck, AnswersConfig, AnswersRow, AnswersScript, FileCause, HasStatus};
-ghost use Rattle.hsm_program.specs.Runs.{OfCheck, OfConfig, OfRow, OfScript, WithoutFile, WritesNothing, status_of};
+ghost use Rattle.hsm_program.specs.Runs.{AnswersCheck, AnswersConfig, AnswersMade, AnswersRow, AnswersScript, FileCause, HasStatus};
+ghost use Rattle.hsm_program.specs.Runs.{OfCheck, OfConfig, OfMade, OfRow, OfScript, WithoutFile, WritesNothing, status_of};
 ghost use Rattle.hsm_program.specs.Parts.{IsAfterConfig, IsPrinted, IsRefusal, ReadsConfig};
 
 use crate::command::Command;
+use crate::made::print_made;
 use crate::outcome::Outcome;
 use crate::reading::{ReadingFault, read_all};
 use hsm_auth::Ledger;
@@ -287,6 +288,8 @@ pub fn hsm_local<B: Bench, S: Sink>(
         AnswersCheck config (S.stands_for out.old) (S.stands_for out.new) result.0 result.1) }
     // Of a row its lines are written. Only a write can fail, and want of memory never comes.
     ensures row { OfRow (asked (names words.now)) (λ row. AnswersRow row (S.stands_for out.old) (S.stands_for out.new) result.0 result.1) }
+    // Of a script that is made the line that sums up its run is written, but for a failed write and want of memory.
+    ensures made { OfMade (asked (names words.now)) (λ count seed. AnswersMade count seed (S.stands_for out.old) (S.stands_for out.new) result.0 result.1) }
     ensures status { HasStatus result.0 result.1 }
     // With each other answer than `Served` and `OutFault` nothing was written.
     ensures nothing { WritesNothing (S.stands_for out.old) (S.stands_for out.new) result.1 }
@@ -314,5 +317,6 @@ pub fn hsm_local<B: Bench, S: Sink>(
         ),
         Command::Check { config } => check_config(alloc, word_at(words, config), bench, out),
         Command::Explain { row } => print_row(row, out),
+        Command::Make { count, seed } => print_made(alloc, count, seed, out),
     }
 }

@@ -7,8 +7,8 @@ ghost use Rattle.hsm_server.specs.Lanes.{lane_view};
 ghost use Rattle.hsm_program.specs.Files.{FilesStay};
 ghost use Rattle.hsm_program.specs.Settings.{Says, run_module};
 ghost use Rattle.hsm_program.specs.Words.{asked, names};
-ghost use Rattle.hsm_program.specs.Runs.{AnswersCheck, AnswersConfig, AnswersRow, AnswersScript, AnswersWords, FileCause};
-ghost use Rattle.hsm_program.specs.Runs.{OfCheck, OfConfig, OfRow, OfScript, WithoutFile, WritesNothing};
+ghost use Rattle.hsm_program.specs.Runs.{AnswersCheck, AnswersConfig, AnswersMade, AnswersRow, AnswersScript, AnswersWords, FileCause};
+ghost use Rattle.hsm_program.specs.Runs.{OfCheck, OfConfig, OfMade, OfRow, OfScript, WithoutFile, WritesNothing};
 ghost use Rattle.hsm_program.specs.Serving.{AnswersServe, HasLanes, HasServed, IsListenFault, IsStatus, OfServe, OtherThanServe, lane_views};
 
 use crate::command::{Command, WordsFault, read_words};
@@ -92,6 +92,8 @@ where
         AnswersCheck config (S.stands_for out.old) (S.stands_for out.new) result.status result.outcome) }
     // Of a row its lines are written. Only a write can fail, and want of memory never comes.
     ensures row { OfRow (asked (names words.now)) (λ row. AnswersRow row (S.stands_for out.old) (S.stands_for out.new) result.status result.outcome) }
+    // Of a script that is made of a count and a seed, the line that sums up its run is written, but for a failed write and want of memory.
+    ensures made { OfMade (asked (names words.now)) (λ count seed. AnswersMade count seed (S.stands_for out.old) (S.stands_for out.new) result.status result.outcome) }
     ensures status { IsStatus (asked (names words.now)) (lane_views B.Door.doorway B.Door.faults B.Door.broken result.lanes.items) result.status result.outcome }
     // With each other answer than `Served` and `OutFault` nothing was written.
     ensures nothing { WritesNothing (S.stands_for out.old) (S.stands_for out.new) result.outcome }

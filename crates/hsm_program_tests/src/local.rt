@@ -165,3 +165,35 @@ fn scripts_and_configurations(rt: HostRuntime) -> Result<(), Fail> {
     }
     Ok(())
 }
+
+// The lines are those of model/make_rows.py.
+#[test]
+fn made_scripts(rt: HostRuntime) -> Result<(), Fail> {
+    let served = (0, Outcome::Served);
+    let one = b"MADE 1 1 0 816eeb5b3376cfaef46e66c31ee1c0ede8c50632e67b95925ef3b0bd6ff87e95\n";
+    let four = b"MADE 4 4 0 e866c070225042da676880fb41a91f02ce00e87ac6846003960d44b2f8e69685\n";
+    prints(&rt, &["make", "1", "0"], &[], served, one.as_slice())?;
+    prints(&rt, &["make", "4", "0"], &[], served, four.as_slice())?;
+    prints(
+        &rt,
+        &["make", "4", "0"],
+        &[0],
+        (3, Outcome::OutFault),
+        b"".as_slice(),
+    )
+}
+
+#[test]
+fn words_of_make(rt: HostRuntime) -> Result<(), Fail> {
+    is_no_command(&rt, &["make"], 1)?;
+    is_no_command(&rt, &["make", "0", "1"], 1)?;
+    is_no_command(&rt, &["make", "50001", "0"], 1)?;
+    is_no_command(&rt, &["make", "01", "0"], 1)?;
+    is_no_command(&rt, &["make", "+1", "0"], 1)?;
+    is_no_command(&rt, &["make", "0"], 1)?;
+    is_no_command(&rt, &["make", "1"], 2)?;
+    is_no_command(&rt, &["make", "1", "4294967296"], 2)?;
+    is_no_command(&rt, &["make", "1", "00"], 2)?;
+    is_no_command(&rt, &["make", "1", "-1", "x"], 2)?;
+    is_no_command(&rt, &["make", "1", "0", "x"], 3)
+}

@@ -189,9 +189,9 @@ fn all_digits(text: &[u8]) -> bool
     text.iter().all(|c| c.is_ascii_digit())
 }
 
-// The decimal number of at most so much, without leading zeros, that a text is.
+/// The decimal number of at most so much, without leading zeros, that a text is.
 #[tactic(auto, unfolding(crate::specs::Scripts::number_within))]
-fn number_within(text: &[u8], most: u64) -> Option<u64>
+pub fn number_within(text: &[u8], most: u64) -> Option<u64>
     requires { most ≤ 2 ^ 40 }
     ensures value { result ≡ number_within most text.now }
     ensures within { IfSome result (λ number. number ≤ most) }

@@ -1,5 +1,6 @@
 //! The program: `hsm_tool serve CONFIG` serves host sockets and a console, `hsm_tool script CONFIG FILE` answers the messages of a script,
-//! `hsm_tool check CONFIG` checks a configuration, and `hsm_tool explain CODE` prints a command.
+//! `hsm_tool check CONFIG` checks a configuration, `hsm_tool explain CODE` prints a command, and `hsm_tool make COUNT SEED` runs a script
+//! that it makes.
 #![tactic(auto)]
 
 use hsm_program::{Outcome, hsm_run};

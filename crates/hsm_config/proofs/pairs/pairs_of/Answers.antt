@@ -1,10 +1,10 @@
-use Rattle.std.proofs.Common.{sym, map, ◌∙◌}
+use Rattle.std.proofs.Common.{sym, ap, Some, map, ◌∙◌}
 use Rattle.toml.specs.View.{table_view, view}
 use Rattle.hsm_config.proofs.TestSet.{is_listed_set, is_test_set}
 use Rattle.hsm_config.proofs.pairs.pairs_of.Goals as goal
 
 pub returns-then-is_test : goal.returns-then-is_test
-returns-then-is_test c = is_test_set (table_view c.args.table.now) (sym c.is_test.ensures ∙ c.if-is_test.true)
+returns-then-is_test c = ap Some c.test_pairs.ensures ∙ is_test_set (table_view c.args.table.now) (sym c.is_test.ensures ∙ c.if-is_test.true)
 
 pub returns : goal.returns
 returns c =

@@ -21,6 +21,7 @@ returns-in-Ok g c =
       script = rw (same.0, same.1) ended.script;
       check = rw (same.0, same.1) ended.check;
       row = rw (same.0, same.1) ended.row;
+      made = rw (same.0, same.1) ended.made;
       status = rw (same.0, same.1) (local_status _ _ _ _ local ended.status);
       nothing = rw same.1 ended.nothing;
       file_cause = rw same.1 ended.file_cause;

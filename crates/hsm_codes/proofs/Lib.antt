@@ -1,0 +1,5 @@
+pub mod Among
+pub mod Checks
+pub mod Rows
+pub mod Answers
+pub mod Some
