@@ -3,9 +3,9 @@
 
     model/cut_rows.py [cases|script|output]
 
-Prints messages with their answers, a script that sends them to lane 1 under set T, or what that script prints. The messages
-are the longest without trailer that the other scripts here have answered 00, and for BA and NG 17; those of B2 and RA stand here. The answers are those of
-hsm_model.py. It needs the command openssl. Nothing of the crates is used.
+Prints messages with their answers, a script that sends them to lane 1 under the test set, or what that script prints.
+The messages are the longest without trailer that the other scripts here have answered 00, and for BA and NG 17; those of
+B2 and RA stand here. The answers are those of hsm_model.py. It needs the command openssl. Nothing of the crates is used.
 """
 import sys
 
