@@ -1,7 +1,12 @@
 -- Lengths of keys and texts.
-use Rattle.std.proofs.Common.{◌≡◌, ℕ, zero, suc, ◌+◌, ◌*◌, List, [], ◌∷◌, length, drop, refl, ap, arith}
+use Rattle.std.proofs.Common.{◌≡◌, ℕ, zero, suc, ◌+◌, ◌*◌, ◌∙◌, Bool, true, false, ◌||◌, List, [], ◌∷◌, length, drop, refl, ap, arith}
+use Rattle.std.proofs.lemmas.Bool.Decides.{nat_tests}
+use Rattle.std.specs.Prelude.{Option, Some, None, IfSome}
 use Rattle.hsm_nibbles.specs.Characters.{hex_of_bytes}
 use Rattle.hsm_rows.specs.declared.settings.Module.{Module}
+use Rattle.hsm_rows.specs.declared.rules.Under.TheVariants.{Lmk}
+use Rattle.hsm_answers.specs.declared.keys.Asked.{Asked}
+use Rattle.hsm_answers.specs.Keys.{differs, scheme_fault}
 use Rattle.hsm_answers.specs.Draws.{drawn_part, unlike, drawn_parts, drawn_key}
 use Rattle.hsm_types.specs.declared.types.Scheme.{Scheme}
 use Rattle.hsm_types.specs.Schemes.{scheme_parts}
@@ -29,3 +34,15 @@ drawn_count m (suc n) p before = ap suc (drawn_count m n (p + 2) (unlike before 
 pub drawn_length : (m : Module) (p n : ℕ) → length (drawn_key m p n) ≡ n
 unfolding drawn_key
 drawn_length m p n = drawn_count m n p []
+
+or-right : (a b : Bool) → (a || b) ≡ false → b ≡ false
+or-right true b e = cc
+or-right false b e = e
+
+-- a key has the number of parts that a scheme asks for
+asked_parts : (wanted : Option ℕ) (n : ℕ) (key : List (List ℕ)) → length key ≡ n → differs wanted n ≡ false → IfSome wanted (λ k. length key ≡ k)
+asked_parts None n key is e = tt
+asked_parts (Some k) n key is e = let same : n ≡ k = grind (arith, nat_tests) in is ∙ same
+
+pub scheme_parts_asked : (a : Asked) (s : Scheme) (key : List (List ℕ)) → length key ≡ scheme_parts s → scheme_fault Lmk a s ≡ false → IfSome a.by_scheme (λ k. length key ≡ k)
+scheme_parts_asked a s key is e = asked_parts a.by_scheme (scheme_parts s) key is (or-right _ (differs a.by_scheme (scheme_parts s)) e)

@@ -10,3 +10,4 @@ pub mod Messages
 pub mod Given
 pub mod Plans
 pub mod Clear
+pub mod Kept

@@ -1,20 +1,23 @@
 //! Keys in the fields of a message.
-ghost use Rattle.std.specs.Prelude.{◌≡◌, true, ◌+◌, ◌*◌, ◌≤◌, ◌++◌, length, IsTrue, IfOk, IfSome, Some, codes};
+ghost use Rattle.std.specs.Prelude.{◌≡◌, true, ◌+◌, ◌*◌, ◌≤◌, ◌++◌, length, IsTrue, IfOk, IfErr, IfSome, Some, codes};
 ghost use Rattle.std.specs.List.{list_all};
 ghost use Rattle.std.specs.Option.{option_map};
 ghost use Rattle.std.specs.Char.{is_ascii_hexdigit};
 ghost use Rattle.hsm_types.specs.Schemes.{scheme_parts};
 ghost use Rattle.hsm_nibbles.specs.Characters.{bytes_of_hex};
 ghost use Rattle.hsm_text.specs.KeyTexts.{scheme_named, scheme_of};
+ghost use Rattle.hsm_lmk.specs.Cache.{Agrees, kept_all};
+ghost use Rattle.hsm_lmk.specs.Caches.{capacity_of, kept_in};
 ghost use Rattle.hsm_lmk.specs.Sealing.{wrap};
 ghost use Rattle.hsm_rows.specs.declared.rules.Under.TheVariants.{Lmk, KeyAt};
 ghost use Rattle.hsm_answers.specs.Keys.{key_of, differs, scheme_fault, length_fault, key_data_fault, given_fault, opened_key, type_of_code, wrapper_of, pair_type, flag_parts};
 ghost use Rattle.hsm_tdes.specs.Tdes.{repeats_part};
 ghost use Rattle.hsm_answers.specs.Values.{first_part, second_part};
 ghost use Rattle.hsm_answers.specs.Given.{data_of, code_in};
+ghost use Rattle.hsm_answers.specs.Kept.{entry_for};
 
 use arrayvec::ArrayVec;
-use hsm_lmk::{LmkSet, OpenFault, open, open_under};
+use hsm_lmk::{KeyCache, LmkSet, OpenFault, open_cached, open_under, refuses_scheme};
 use hsm_nibbles::digit_value;
 use hsm_rows::{Code, same_text};
 use hsm_tdes::{Key, parts_equal};
@@ -107,25 +110,48 @@ fn differs(wanted: Option<usize>, parts: usize) -> bool
     }
 }
 
+// 26 for the scheme of a text under the LMK, or for another length than that of a scheme field.
+fn scheme_fails(asked: &Asked, scheme: Scheme) -> bool
+    ensures { result ≡ scheme_fault Lmk asked.now scheme }
+{
+    refuses_scheme(asked.ty, scheme) || differs(asked.by_scheme, scheme_parts(scheme))
+}
+
+// 27 for the length.
+fn length_fails(asked: &Asked, parts: usize) -> bool
+    ensures { result ≡ length_fault asked.now parts }
+{
+    !length_allowed(asked.ty, parts) || asked.wraps && parts == 1 || differs(asked.by_rule, parts)
+}
+
 // The key under the LMK pair of its type, or the first code that holds of it.
 #[tactic(auto, using(crate::proofs::Lengths::opened_length), unfolding(crate::specs::Keys::key_data_fault, hsm_lmk::specs::Opened::open_answer))]
-fn check_under_lmk(set: &LmkSet, asked: &Asked, given: &KeyGiven) -> Result<Key, Code>
-    requires { length given.now.bytes.items ≡ 8 * scheme_parts given.now.scheme }
+fn check_under_lmk(
+    cache: &mut KeyCache,
+    set: &LmkSet,
+    asked: &Asked,
+    given: &KeyGiven,
+) -> Result<Key, Code>
+    requires whole { length given.now.bytes.items ≡ 8 * scheme_parts given.now.scheme }
+    requires agrees { Agrees set.now (kept_in cache.old).entries }
     ensures fault { code_in result ≡ key_data_fault (Some (wrap set.now asked.now.ty)) Lmk asked.now (Some (data_of given.now)) }
     ensures key { IfOk result (λ key. key ≡ opened_key (wrap set.now asked.now.ty) (Some (data_of given.now))) }
     ensures long { IfOk result (λ key. asked.now.wraps ≡ true → 2 ≤ length key) }
     ensures scheme { IfOk result (λ key. IfSome asked.now.by_scheme (λ n. length key ≡ n)) }
+    ensures agrees { Agrees set.now (kept_in cache.new).entries }
+    ensures capacity { capacity_of cache.new ≡ capacity_of cache.old }
+    ensures kept { IfOk result (λ _. kept_in cache.new ≡ kept_all (capacity_of cache.old) (kept_in cache.old) (entry_for set.now asked.now.ty (Some (data_of given.now)))) }
+    ensures unkept { IfErr result (λ _. cache.new ≡ cache.old) }
 {
-    let parts = scheme_parts(given.scheme);
-    let differs_by_scheme = differs(asked.by_scheme, parts);
-    let breaks = asked.wraps && parts == 1 || differs(asked.by_rule, parts);
-    match open(set, asked.ty, given.scheme, given.bytes.as_slice()) {
-        Err(OpenFault::Scheme) => Err(Code(26)),
-        _ if differs_by_scheme => Err(Code(26)),
-        Err(OpenFault::Length) => Err(Code(27)),
-        _ if breaks => Err(Code(27)),
-        Err(OpenFault::Parity) => Err(asked.parity),
+    if scheme_fails(asked, given.scheme) {
+        return Err(Code(26));
+    }
+    if length_fails(asked, scheme_parts(given.scheme)) {
+        return Err(Code(27));
+    }
+    match open_cached(cache, set, asked.ty, given.scheme, given.bytes.as_slice()) {
         Ok(key) => Ok(key),
+        Err(_) => Err(asked.parity),
     }
 }
 
@@ -140,9 +166,7 @@ fn check_under_key(kek: &Key, at: u8, asked: &Asked, given: &KeyGiven) -> Result
 {
     let parts = scheme_parts(given.scheme);
     let differs_by_scheme = differs(asked.by_scheme, parts);
-    let breaks = !length_allowed(asked.ty, parts)
-        || asked.wraps && parts == 1
-        || differs(asked.by_rule, parts);
+    let breaks = length_fails(asked, parts);
     match open_under(kek, given.scheme, given.bytes.as_slice()) {
         Err(OpenFault::Scheme) => Err(Code(26)),
         _ if differs_by_scheme => Err(Code(26)),
@@ -154,16 +178,27 @@ fn check_under_key(kek: &Key, at: u8, asked: &Asked, given: &KeyGiven) -> Result
 }
 
 /// The key of a text under the LMK pair of its type, or the first code that holds of it: 26, 27, the parity code.
-/// 15 for a text that is no key text, which no field that reads has.
+/// 15 for a text that is no key text, which no field that reads has. A key that the cache keeps is not opened anew; another one
+/// without a fault is kept.
 #[tactic(auto, unfolding(crate::specs::Keys::key_data_fault))]
-pub fn check_lmk_key(set: &LmkSet, asked: &Asked, text: &[u8]) -> Result<Key, Code>
+pub fn check_lmk_key(
+    cache: &mut KeyCache,
+    set: &LmkSet,
+    asked: &Asked,
+    text: &[u8],
+) -> Result<Key, Code>
+    requires { Agrees set.now (kept_in cache.old).entries }
     ensures fault { code_in result ≡ key_data_fault (Some (wrap set.now asked.now.ty)) Lmk asked.now (key_of text.now) }
     ensures key { IfOk result (λ key. key ≡ opened_key (wrap set.now asked.now.ty) (key_of text.now)) }
     ensures long { IfOk result (λ key. asked.now.wraps ≡ true → 2 ≤ length key) }
     ensures scheme { IfOk result (λ key. IfSome asked.now.by_scheme (λ n. length key ≡ n)) }
+    ensures agrees { Agrees set.now (kept_in cache.new).entries }
+    ensures capacity { capacity_of cache.new ≡ capacity_of cache.old }
+    ensures kept { IfOk result (λ _. kept_in cache.new ≡ kept_all (capacity_of cache.old) (kept_in cache.old) (entry_for set.now asked.now.ty (key_of text.now))) }
+    ensures unkept { IfErr result (λ _. cache.new ≡ cache.old) }
 {
     match key_in(text) {
-        Some(given) => check_under_lmk(set, asked, &given),
+        Some(given) => check_under_lmk(cache, set, asked, &given),
         None => Err(Code(15)),
     }
 }

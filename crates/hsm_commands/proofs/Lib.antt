@@ -12,3 +12,4 @@ pub mod FitLaws
 pub mod HexSteps
 pub mod MacLaws
 pub mod HostRows
+pub mod KeptLaws

@@ -1,14 +1,17 @@
 //! The checks of a message before its entry.
-ghost use Rattle.std.specs.Prelude.{◌≡◌, ◌∷◌, [], Some, None, if◌then◌else◌, ◌&&◌, IfOk};
+ghost use Rattle.std.specs.Prelude.{◌≡◌, ◌∷◌, [], Some, None, if◌then◌else◌, ◌&&◌, IfOk, IfErr};
 ghost use Rattle.std.specs.List.{list_any};
 ghost use Rattle.std.specs.Option.{option_map};
+ghost use Rattle.hsm_lmk.specs.Cache.{Agrees, kept_all};
+ghost use Rattle.hsm_lmk.specs.Caches.{capacity_of, kept_in};
 ghost use Rattle.hsm_rows.specs.declared.rules.ActUse.{ActUse};
 ghost use Rattle.hsm_rows.specs.declared.rules.KeyCheck.TheVariants.{Target};
 ghost use Rattle.hsm_rows.specs.declared.rules.Under.TheVariants.{Lmk, KeyAt};
 ghost use Rattle.hsm_rows.specs.Reading.{is_end};
-ghost use Rattle.hsm_answers.specs.Keys.{field_text, given_fault, key_fault, keys_fault, parts_by_rule, parts_by_scheme, lengths_differ, source_at, type_of, wrapping_key};
+ghost use Rattle.hsm_answers.specs.Keys.{field_text, given_fault, key_data, key_fault, keys_fault, parts_by_rule, parts_by_scheme, lengths_differ, source_at, type_of, wrapping_key};
 ghost use Rattle.hsm_answers.specs.Checks.{act_permit, check_before, is_forbidden, is_used, parts_fault};
 ghost use Rattle.hsm_answers.specs.Given.{code_in};
+ghost use Rattle.hsm_answers.specs.Kept.{check_entries, checks_entries, entry_for};
 ghost use Rattle.hsm_answers.specs.Plans.{number_of};
 ghost use Rattle.hsm_commands.specs.declared.keys.OpenedKeys.{OpenedKeys};
 ghost use Rattle.hsm_commands.specs.Demands.{parts_demands};
@@ -22,6 +25,7 @@ use crate::texts::text_of;
 use hsm_answers::{
     Asked, check_lmk_key, check_wrapped_key, flag_parts, repeats_part, scheme_named,
 };
+use hsm_lmk::KeyCache;
 use hsm_rows::{ActUse, Code, KeyCheck, LengthRule, Secret, TypeSource, Under, same_text};
 use hsm_types::{Permit, length_allowed, scheme_parts};
 
@@ -100,16 +104,27 @@ fn is_left_out(wraps: bool, text: &[u8]) -> bool
 
 // The key of a field under the LMK, or the code of what is wrong with it.
 #[inline]
-fn check_lmk(request: &Request<'_, '_>, field: u8, asked: &Asked) -> Result<Option<FieldKey>, Code>
-    requires { type_of (texts_of request.now) (source_at field (row_rules request.now).keys) ≡ asked.now.ty }
+fn check_lmk(
+    request: &Request<'_, '_>,
+    cache: &mut KeyCache,
+    field: u8,
+    asked: &Asked,
+) -> Result<Option<FieldKey>, Code>
+    requires agrees { Agrees (module_of request.now).lmk (kept_in cache.old).entries }
+    requires ty { type_of (texts_of request.now) (source_at field (row_rules request.now).keys) ≡ asked.now.ty }
     ensures fault { code_in result ≡ given_fault (wrapping_key (module_of request.now) (row_rules request.now) (texts_of request.now) Lmk asked.now.ty) Lmk asked.now (field_text (texts_of request.now) field) }
     ensures key { IfOk result (λ held. IsLmkKey (module_of request.now) (row_rules request.now) (texts_of request.now) field asked.now held) }
+    ensures agrees { Agrees (module_of request.now).lmk (kept_in cache.new).entries }
+    ensures capacity { capacity_of cache.new ≡ capacity_of cache.old }
+    ensures kept { IfOk result (λ _. kept_in cache.new ≡ kept_all (capacity_of cache.old) (kept_in cache.old)
+        (if asked.now.wraps && is_end (field_text (texts_of request.now) field) then [] else entry_for (module_of request.now).lmk asked.now.ty (key_data (texts_of request.now) field))) }
+    ensures unkept { IfErr result (λ _. cache.new ≡ cache.old) }
 {
     let text = text_of(request, field);
     if is_left_out(asked.wraps, text) {
         return Ok(None);
     }
-    match check_lmk_key(&request.module.lmk, asked, text) {
+    match check_lmk_key(cache, &request.module.lmk, asked, text) {
         Ok(key) => Ok(Some(FieldKey { field, key })),
         Err(code) => Err(code),
     }
@@ -119,12 +134,18 @@ fn check_lmk(request: &Request<'_, '_>, field: u8, asked: &Asked) -> Result<Opti
 #[tactic(auto, unfolding(hsm_answers::specs::Keys::key_fault, hsm_answers::specs::Keys::lmk_key, hsm_answers::specs::Keys::key_data_fault))]
 fn check_key(
     request: &Request<'_, '_>,
+    cache: &mut KeyCache,
     earlier: &Option<FieldKey>,
     check: KeyCheck,
 ) -> Result<Option<FieldKey>, Code>
-    requires { KeyStands (module_of request.now) (row_rules request.now) (texts_of request.now) earlier.now check }
+    requires agrees { Agrees (module_of request.now).lmk (kept_in cache.old).entries }
+    requires stands { KeyStands (module_of request.now) (row_rules request.now) (texts_of request.now) earlier.now check }
     ensures fault { code_in result ≡ key_fault (module_of request.now) (row_rules request.now) (texts_of request.now) check }
     ensures key { IfOk result (λ held. KeyHolds (module_of request.now) (row_rules request.now) (texts_of request.now) check held) }
+    ensures agrees { Agrees (module_of request.now).lmk (kept_in cache.new).entries }
+    ensures capacity { capacity_of cache.new ≡ capacity_of cache.old }
+    ensures kept { IfOk result (λ _. kept_in cache.new ≡ kept_all (capacity_of cache.old) (kept_in cache.old) (check_entries (module_of request.now) (texts_of request.now) check)) }
+    ensures unkept { IfErr result (λ _. cache.new ≡ cache.old) }
 {
     match check {
         KeyCheck::GivenKey {
@@ -143,7 +164,7 @@ fn check_key(
                 parity,
             };
             match under {
-                Under::Lmk => check_lmk(request, field, &asked),
+                Under::Lmk => check_lmk(request, cache, field, &asked),
                 Under::KeyAt(kek) => match found_in(earlier, kek) {
                     Some(wrapping) => {
                         let key = check_wrapped_key(
@@ -164,10 +185,18 @@ fn check_key(
 
 // The keys of a row's checks, or the code of the first of them with a fault.
 #[tactic(auto, unfolding(hsm_answers::specs::Keys::keys_fault))]
-pub(crate) fn check_keys(request: &Request<'_, '_>, checks: &[KeyCheck]) -> Result<OpenedKeys, Code>
-    requires { KeysStand (module_of request.now) (row_rules request.now) (texts_of request.now) checks.now }
+pub(crate) fn check_keys(
+    request: &Request<'_, '_>,
+    cache: &mut KeyCache,
+    checks: &[KeyCheck],
+) -> Result<OpenedKeys, Code>
+    requires agrees { Agrees (module_of request.now).lmk (kept_in cache.old).entries }
+    requires stand { KeysStand (module_of request.now) (row_rules request.now) (texts_of request.now) checks.now }
     ensures fault { code_in result ≡ keys_fault (module_of request.now) (row_rules request.now) (texts_of request.now) checks.now }
     ensures keys { IfOk result (λ keys. KeysHold (module_of request.now) (row_rules request.now) (texts_of request.now) checks.now keys) }
+    ensures agrees { Agrees (module_of request.now).lmk (kept_in cache.new).entries }
+    ensures capacity { capacity_of cache.new ≡ capacity_of cache.old }
+    ensures kept { kept_in cache.new ≡ kept_all (capacity_of cache.old) (kept_in cache.old) (checks_entries (module_of request.now) (row_rules request.now) (texts_of request.now) checks.now) }
 {
     match checks {
         [] => Ok(OpenedKeys {
@@ -175,15 +204,15 @@ pub(crate) fn check_keys(request: &Request<'_, '_>, checks: &[KeyCheck]) -> Resu
             second: None,
         }),
         [a] => {
-            let first = check_key(request, &None, *a)?;
+            let first = check_key(request, cache, &None, *a)?;
             Ok(OpenedKeys {
                 first,
                 second: None,
             })
         }
         [a, b] => {
-            let first = check_key(request, &None, *a)?;
-            let second = check_key(request, &first, *b)?;
+            let first = check_key(request, cache, &None, *a)?;
+            let second = check_key(request, cache, &first, *b)?;
             Ok(OpenedKeys { first, second })
         }
         // a row that is followed has at most two keys
@@ -230,15 +259,22 @@ fn parts_code(request: &Request<'_, '_>, keys: &OpenedKeys) -> Option<Code>
 
 // The keys of a message, or the code of the first check before its entry that fails.
 #[tactic(auto, unfolding(hsm_answers::specs::Checks::check_before, hsm_answers::specs::Checks::permit_fault))]
-pub(crate) fn check_before(request: &Request<'_, '_>) -> Result<OpenedKeys, Code>
+pub(crate) fn check_before(
+    request: &Request<'_, '_>,
+    cache: &mut KeyCache,
+) -> Result<OpenedKeys, Code>
+    requires agrees { Agrees (module_of request.now).lmk (kept_in cache.old).entries }
     requires keys { KeysStand (module_of request.now) (row_rules request.now) (texts_of request.now) (row_rules request.now).keys }
     requires parts { (keys : OpenedKeys) → KeysHold (module_of request.now) (row_rules request.now) (texts_of request.now) (row_rules request.now).keys keys
         → Meets request.now keys (parts_demands (row_rules request.now).parts_differ) }
     ensures fault { code_in result ≡ check_before (module_of request.now) (row_rules request.now) (texts_of request.now) }
     ensures keys { IfOk result (λ keys. KeysHold (module_of request.now) (row_rules request.now) (texts_of request.now) (row_rules request.now).keys keys) }
+    ensures agrees { Agrees (module_of request.now).lmk (kept_in cache.new).entries }
+    ensures capacity { capacity_of cache.new ≡ capacity_of cache.old }
+    ensures kept { kept_in cache.new ≡ kept_all (capacity_of cache.old) (kept_in cache.old) (checks_entries (module_of request.now) (row_rules request.now) (texts_of request.now) (row_rules request.now).keys) }
 {
     let rules = request.rules;
-    let keys = check_keys(request, rules.keys)?;
+    let keys = check_keys(request, cache, rules.keys)?;
     if let Some(code) = permit_code(request, rules.acts) {
         return Err(code);
     }

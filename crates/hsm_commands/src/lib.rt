@@ -21,4 +21,4 @@ mod values;
 mod written;
 
 pub use fit::{fits_followed, host_rows_followed};
-pub use plan::{Plan, finish, prepare};
+pub use plan::{Plan, finish, prepare, prepare_cached};

@@ -1,10 +1,13 @@
 //! Plans of messages.
 ghost use Rattle.std.specs.Prelude.{◌≡◌, ◌+◌, ◌^◌, ◌<◌, ◌≤◌, ◌++◌, true, None, is_some, length};
 ghost use Rattle.hsm_auth.specs.History.{CanAsk, Fits};
+ghost use Rattle.hsm_lmk.specs.Cache.{Agrees, kept_all};
+ghost use Rattle.hsm_lmk.specs.Caches.{capacity_of, kept_in};
 ghost use Rattle.hsm_rows.specs.Table.{shape_of, rules_of};
 ghost use Rattle.hsm_answers.specs.Answers.{answer};
 ghost use Rattle.hsm_answers.specs.Asks.{ask_of, asked_words, row_ask};
 ghost use Rattle.hsm_answers.specs.Checks.{check_after};
+ghost use Rattle.hsm_answers.specs.Kept.{opened_by};
 ghost use Rattle.hsm_answers.specs.Plans.{fields_text};
 ghost use Rattle.hsm_answers.specs.Values.{first_of};
 ghost use Rattle.hsm_commands.specs.Demands.{terms_room, word_demands};
@@ -22,6 +25,7 @@ use arrayvec::ArrayVec;
 use hsm_answers::laws::{planned, planned_answer};
 use hsm_answers::{Checked, empty_ask, first_of, put_code};
 use hsm_auth::{Ask, Granted};
+use hsm_lmk::KeyCache;
 use hsm_rows::{AskKind, Fields, Module, Row, read_fields, texts_stand};
 use hsm_text::Reply;
 
@@ -130,14 +134,25 @@ fn put_fields(module: &Module, plan: &Plan<'_>, granted: &Granted, reply: &mut R
     put_terms(&entry, plan.row.terms, reply);
 }
 
-/// The plan of a message. The text is what follows the command code.
-pub fn prepare<'m>(module: &Module, row: &'static Row, text: &'m [u8]) -> Plan<'m>
-    requires { IsFollowed (shape_of row.now) }
+/// The plan of a message. The text is what follows the command code. Its keys under the LMK are those that the cache keeps,
+/// or are opened, and kept up to the first key with a fault.
+#[tactic(auto, unfolding(hsm_answers::specs::Kept::opened_by))]
+pub fn prepare_cached<'m>(
+    module: &Module,
+    cache: &mut KeyCache,
+    row: &'static Row,
+    text: &'m [u8],
+) -> Plan<'m>
+    requires agrees { Agrees «module».now.lmk (kept_in cache.old).entries }
+    requires row { IsFollowed (shape_of row.now) }
     ensures row { plan_row result ≡ shape_of row.now }
     ensures text { plan_text result ≡ text.now }
     ensures ask { plan_ask result ≡ ask_of «module».now (shape_of row.now) text.now }
     ensures may { CanAsk (plan_ask result) }
     ensures plan { IsPlanOf «module».now result }
+    ensures agrees { Agrees «module».now.lmk (kept_in cache.new).entries }
+    ensures capacity { capacity_of cache.new ≡ capacity_of cache.old }
+    ensures kept { kept_in cache.new ≡ kept_all (capacity_of cache.old) (kept_in cache.old) (opened_by «module».now (shape_of row.now) text.now) }
 {
     planned();
     texts_stand();
@@ -160,7 +175,7 @@ pub fn prepare<'m>(module: &Module, row: &'static Row, text: &'m [u8]) -> Plan<'
                 rules,
                 fields: &fields,
             };
-            match check_before(&request) {
+            match check_before(&request, cache) {
                 Err(code) => Plan {
                     row,
                     text,
@@ -196,6 +211,18 @@ pub fn prepare<'m>(module: &Module, row: &'static Row, text: &'m [u8]) -> Plan<'
             }
         }
     }
+}
+
+/// The same without a cache: each key is opened anew.
+pub fn prepare<'m>(module: &Module, row: &'static Row, text: &'m [u8]) -> Plan<'m>
+    requires { IsFollowed (shape_of row.now) }
+    ensures row { plan_row result ≡ shape_of row.now }
+    ensures text { plan_text result ≡ text.now }
+    ensures ask { plan_ask result ≡ ask_of «module».now (shape_of row.now) text.now }
+    ensures may { CanAsk (plan_ask result) }
+    ensures plan { IsPlanOf «module».now result }
+{
+    prepare_cached(module, &mut KeyCache::none(), row, text)
 }
 
 /// Appends the answer of the plan's message at its entry: the reply code, the error code, with 00 the reply fields, and

@@ -3,4 +3,4 @@
 
 mod plan;
 
-pub use plan::{DataPlan, finish, prepare};
+pub use plan::{DataPlan, finish, prepare, prepare_cached};

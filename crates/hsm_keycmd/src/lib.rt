@@ -3,4 +3,4 @@
 
 mod plan;
 
-pub use plan::{KeyPlan, finish, prepare};
+pub use plan::{KeyPlan, finish, prepare, prepare_cached};

@@ -24,9 +24,20 @@ impl KeyCache {
         ensures capacity { IfOk result (λ cache. capacity_of cache ≡ capacity) }
     {
         Ok(KeyCache {
-            entries: HeapCircularBuffer::with_capacity(alloc, capacity)?,
+            ring: Some(HeapCircularBuffer::with_capacity(alloc, capacity)?),
             hits: 0,
         })
+    }
+
+    /// A cache that keeps no entry, and takes no memory.
+    pub fn none() -> KeyCache
+        ensures kept { kept_in result ≡ record { entries = []; hits = 0 } }
+        ensures capacity { capacity_of result ≡ 0 }
+    {
+        KeyCache {
+            ring: None,
+            hits: 0,
+        }
     }
 
     /// How often a key was found, at most 2^63.
@@ -41,17 +52,16 @@ impl KeyCache {
     fn find(&self, ty: KeyType, scheme: Scheme, text: &[u8]) -> Option<Key>
         ensures { result ≡ option_map (λ e. e.key) (entry_of ty scheme text.now (kept_in self.now).entries) }
     {
-        let (older, newer) = self.entries.as_slices();
-        match key_among(older, ty, scheme, text) {
-            Some(key) => Some(key),
-            None => key_among(newer, ty, scheme, text),
+        match &self.ring {
+            Some(ring) => key_in(ring, ty, scheme, text),
+            None => None,
         }
     }
 
     // Counts a key that was found.
     fn count(&mut self)
         ensures hits { self.new.hits ≡ min (self.old.hits + 1) (2 ^ 63) }
-        ensures entries { self.new.entries ≡ self.old.entries }
+        ensures ring { self.new.ring ≡ self.old.ring }
     {
         if self.hits < 1 << 63 {
             self.hits += 1;
@@ -60,12 +70,39 @@ impl KeyCache {
 
     // Appends an entry; where there are then too many the oldest goes.
     fn append(&mut self, entry: KeyEntry)
-        ensures entries { self.new.entries.items ≡ within self.old.entries.capacity (self.old.entries.items ++ entry ∷ []) }
-        ensures capacity { self.new.entries.capacity ≡ self.old.entries.capacity }
+        ensures entries { (kept_in self.new).entries ≡ within (capacity_of self.old) ((kept_in self.old).entries ++ entry ∷ []) }
+        ensures capacity { capacity_of self.new ≡ capacity_of self.old }
         ensures hits { self.new.hits ≡ self.old.hits }
     {
-        prove!(self.entries.len() <= self.entries.capacity());
-        self.entries.push_back(entry);
+        match &mut self.ring {
+            Some(ring) => push(ring, entry),
+            None => (),
+        }
+    }
+}
+
+// Appends an entry; where there are then too many the oldest goes.
+fn push(ring: &mut HeapCircularBuffer<KeyEntry>, entry: KeyEntry)
+    ensures entries { ring.new.items ≡ within ring.old.capacity (ring.old.items ++ entry ∷ []) }
+    ensures capacity { ring.new.capacity ≡ ring.old.capacity }
+{
+    prove!(ring.len() <= ring.capacity());
+    ring.push_back(entry);
+}
+
+// The key of the first entry that has this type, scheme and text.
+fn key_in(
+    ring: &HeapCircularBuffer<KeyEntry>,
+    ty: KeyType,
+    scheme: Scheme,
+    text: &[u8],
+) -> Option<Key>
+    ensures { result ≡ option_map (λ e. e.key) (entry_of ty scheme text.now ring.now.items) }
+{
+    let (older, newer) = ring.as_slices();
+    match key_among(older, ty, scheme, text) {
+        Some(key) => Some(key),
+        None => key_among(newer, ty, scheme, text),
     }
 }
 

@@ -23,8 +23,8 @@ pub struct KeyEntry {
 /// entries as a list, the oldest first.
 #[derive(Drop)]
 pub struct KeyCache {
-    pub(crate) entries: HeapCircularBuffer<KeyEntry>,
+    // None where no key is kept.
+    pub(crate) ring: Option<HeapCircularBuffer<KeyEntry>>,
     pub(crate) hits: u64,
-    ghost some: { 1 ≤ entries.capacity },
     ghost counted: { hits ≤ 2 ^ 63 },
 }

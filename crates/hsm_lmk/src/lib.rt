@@ -299,8 +299,8 @@ fn open_odd(wrapping: &Key, scheme: Scheme, text: &[u8]) -> Result<Key, OpenFaul
     }
 }
 
-// Whether no text of the type has the scheme.
-fn refuses_scheme(ty: KeyType, scheme: Scheme) -> bool
+/// Whether no text of the type under its LMK pair has the scheme.
+pub fn refuses_scheme(ty: KeyType, scheme: Scheme) -> bool
     ensures { result ≡ refuses_scheme ty scheme }
 {
     match scheme {

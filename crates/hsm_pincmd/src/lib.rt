@@ -3,4 +3,4 @@
 
 mod plan;
 
-pub use plan::{PinPlan, finish, prepare};
+pub use plan::{PinPlan, finish, prepare, prepare_cached};

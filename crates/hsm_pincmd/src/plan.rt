@@ -1,14 +1,18 @@
 //! Plans of the PIN commands.
 ghost use Rattle.std.specs.Prelude.{◌≡◌, ◌≤◌, ◌++◌, length};
 ghost use Rattle.hsm_auth.specs.History.{CanAsk, Fits};
+ghost use Rattle.hsm_lmk.specs.Cache.{Agrees, kept_all};
+ghost use Rattle.hsm_lmk.specs.Caches.{capacity_of, kept_in};
 ghost use Rattle.hsm_rows.specs.Table.{shape_of};
 ghost use Rattle.hsm_answers.specs.Answers.{answer};
 ghost use Rattle.hsm_answers.specs.Asks.{ask_of};
+ghost use Rattle.hsm_answers.specs.Kept.{opened_by};
 ghost use Rattle.hsm_pincmd.specs.Commands.{IsPinRow};
 ghost use Rattle.hsm_pincmd.specs.Plans.{plan_row, plan_text, plan_ask, IsPlanOf};
 
 use hsm_auth::{Ask, Granted};
 use hsm_commands::{Plan, host_rows_followed};
+use hsm_lmk::KeyCache;
 use hsm_rows::{Module, Row};
 use hsm_text::Reply;
 
@@ -41,6 +45,32 @@ pub fn prepare<'m>(module: &Module, row: &'static Row, text: &'m [u8]) -> PinPla
     host_rows_followed();
     PinPlan {
         plan: hsm_commands::prepare(module, row, text),
+    }
+}
+
+/// The same with the keys that the cache keeps. Another key under the LMK is opened, and kept up to the first key with a
+/// fault.
+#[inline(always)]
+pub fn prepare_cached<'m>(
+    module: &Module,
+    cache: &mut KeyCache,
+    row: &'static Row,
+    text: &'m [u8],
+) -> PinPlan<'m>
+    requires agrees { Agrees «module».now.lmk (kept_in cache.old).entries }
+    requires row { IsPinRow (shape_of row.now) }
+    ensures row { plan_row result ≡ shape_of row.now }
+    ensures text { plan_text result ≡ text.now }
+    ensures ask { plan_ask result ≡ ask_of «module».now (shape_of row.now) text.now }
+    ensures may { CanAsk (plan_ask result) }
+    ensures plan { IsPlanOf «module».now result }
+    ensures agrees { Agrees «module».now.lmk (kept_in cache.new).entries }
+    ensures capacity { capacity_of cache.new ≡ capacity_of cache.old }
+    ensures kept { kept_in cache.new ≡ kept_all (capacity_of cache.old) (kept_in cache.old) (opened_by «module».now (shape_of row.now) text.now) }
+{
+    host_rows_followed();
+    PinPlan {
+        plan: hsm_commands::prepare_cached(module, cache, row, text),
     }
 }
 

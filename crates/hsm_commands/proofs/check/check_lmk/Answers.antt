@@ -7,4 +7,4 @@ pub returns-in-Ok-clause-key : goal.returns-in-Ok-clause-key
 returns-in-Ok-clause-key c =
     let left = rw c.text_of-text.ensures at (sym c.is_left_out.ensures ∙ c.if-is_left_out.false) in
     let opened = rw c.text_of-text.ensures at c.in-Ok.ensures in
-    lmk_holds (module_of c.args.request.now) (row_rules c.args.request.now) (texts_of c.args.request.now) c.args.field c.args.asked.now c.in-Ok.key c.requires left opened.fault opened.key opened.long opened.scheme
+    lmk_holds (module_of c.args.request.now) (row_rules c.args.request.now) (texts_of c.args.request.now) c.args.field c.args.asked.now c.in-Ok.key c.requires.ty left opened.fault opened.key opened.long opened.scheme

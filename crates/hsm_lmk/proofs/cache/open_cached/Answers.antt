@@ -8,7 +8,7 @@ returns-in-Some-clause-value c = found_answers _ _ _ _ _ _ c.requires.agrees (sy
 
 pub returns-in-Some-clause-kept : goal.returns-in-Some-clause-kept
 unfolding kept_one
-returns-in-Some-clause-kept c = rw (was_found _ _ (sym c.in-Some.is ∙ c.find.ensures), c.count.ensures.entries, c.count.ensures.hits) refl
+returns-in-Some-clause-kept c = rw (was_found _ _ (sym c.in-Some.is ∙ c.find.ensures), c.count.ensures.ring, c.count.ensures.hits) refl
 
 pub returns-clause-agrees : goal.returns-clause-agrees
 returns-clause-agrees c =

@@ -1,7 +1,7 @@
 use Rattle.std.proofs.Common.{◌∙◌, sym, ap}
 use Rattle.hsm_lmk.specs.Cache.{entry_of, is_of}
 use Rattle.hsm_lmk.proofs.CacheLaws.{found_older, found_newer, key_in}
-use Rattle.hsm_lmk.proofs.kept.KeyCache.find.Goals as goal
+use Rattle.hsm_lmk.proofs.cache.key_in.Goals as goal
 
 pub returns-in-Some : goal.returns-in-Some
 returns-in-Some c =

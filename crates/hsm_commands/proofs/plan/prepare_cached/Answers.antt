@@ -12,7 +12,7 @@ use Rattle.hsm_answers.specs.Plans.{IsPlanned, fields_text}
 use Rattle.hsm_commands.specs.declared.keys.OpenedKeys.{OpenedKeys}
 use Rattle.hsm_commands.specs.Demands.{AllMet, word_demands}
 use Rattle.hsm_commands.proofs.PlanSteps.{stands, before_is, after_is, ask_is, ready_is}
-use Rattle.hsm_commands.proofs.plan.prepare.Goals as goal
+use Rattle.hsm_commands.proofs.plan.prepare_cached.Goals as goal
 
 pub check_before-requires-clause-keys : goal.check_before-requires-clause-keys
 check_before-requires-clause-keys c =
@@ -20,8 +20,8 @@ check_before-requires-clause-keys c =
     let row = shape_of c.args.row.now in
     let rules = rules_shape c.rules-rules.result.now in
     let r = read_text_of c.in-Ok.fields in
-    let texts = c.texts_stand.ensures.are row c.args.text.now r c.requires.host c.in-Ok.ensures.reading in
-    let s = stands m row rules c.rules-rules.ensures c.requires r texts in
+    let texts = c.texts_stand.ensures.are row c.args.text.now r c.requires.row.host c.in-Ok.ensures.reading in
+    let s = stands m row rules c.rules-rules.ensures c.requires.row r texts in
     s.keys
 
 pub check_before-requires-clause-parts : goal.check_before-requires-clause-parts
@@ -30,8 +30,8 @@ check_before-requires-clause-parts c =
     let row = shape_of c.args.row.now in
     let rules = rules_shape c.rules-rules.result.now in
     let r = read_text_of c.in-Ok.fields in
-    let texts = c.texts_stand.ensures.are row c.args.text.now r c.requires.host c.in-Ok.ensures.reading in
-    let s = stands m row rules c.rules-rules.ensures c.requires r texts in
+    let texts = c.texts_stand.ensures.are row c.args.text.now r c.requires.row.host c.in-Ok.ensures.reading in
+    let s = stands m row rules c.rules-rules.ensures c.requires.row r texts in
     λ keys hold. (s.steps keys hold).parts
 
 pub check_after-requires-clause-checks : goal.check_after-requires-clause-checks
@@ -40,8 +40,8 @@ check_after-requires-clause-checks c =
     let row = shape_of c.args.row.now in
     let rules = rules_shape c.rules-rules.result.now in
     let r = read_text_of c.in-Ok.fields in
-    let texts = c.texts_stand.ensures.are row c.args.text.now r c.requires.host c.in-Ok.ensures.reading in
-    let s = stands m row rules c.rules-rules.ensures c.requires r texts in
+    let texts = c.texts_stand.ensures.are row c.args.text.now r c.requires.row.host c.in-Ok.ensures.reading in
+    let s = stands m row rules c.rules-rules.ensures c.requires.row r texts in
     (s.steps c.in-Ok-check_before.keys c.in-Ok-check_before.ensures.keys).checks
 
 pub check_after-requires-clause-have : goal.check_after-requires-clause-have
@@ -50,8 +50,8 @@ check_after-requires-clause-have c =
     let row = shape_of c.args.row.now in
     let rules = rules_shape c.rules-rules.result.now in
     let r = read_text_of c.in-Ok.fields in
-    let texts = c.texts_stand.ensures.are row c.args.text.now r c.requires.host c.in-Ok.ensures.reading in
-    let s = stands m row rules c.rules-rules.ensures c.requires r texts in
+    let texts = c.texts_stand.ensures.are row c.args.text.now r c.requires.row.host c.in-Ok.ensures.reading in
+    let s = stands m row rules c.rules-rules.ensures c.requires.row r texts in
     s.have
 
 pub check_after-requires-clause-value : goal.check_after-requires-clause-value
@@ -60,8 +60,8 @@ check_after-requires-clause-value c =
     let row = shape_of c.args.row.now in
     let rules = rules_shape c.rules-rules.result.now in
     let r = read_text_of c.in-Ok.fields in
-    let texts = c.texts_stand.ensures.are row c.args.text.now r c.requires.host c.in-Ok.ensures.reading in
-    let s = stands m row rules c.rules-rules.ensures c.requires r texts in
+    let texts = c.texts_stand.ensures.are row c.args.text.now r c.requires.row.host c.in-Ok.ensures.reading in
+    let s = stands m row rules c.rules-rules.ensures c.requires.row r texts in
     (s.steps c.in-Ok-check_before.keys c.in-Ok-check_before.ensures.keys).value
 
 pub late_ask-ask-requires-clause-kind : goal.late_ask-ask-requires-clause-kind
@@ -70,8 +70,8 @@ late_ask-ask-requires-clause-kind c =
     let row = shape_of c.args.row.now in
     let rules = rules_shape c.rules-rules.result.now in
     let r = read_text_of c.in-Ok.fields in
-    let texts = c.texts_stand.ensures.are row c.args.text.now r c.requires.host c.in-Ok.ensures.reading in
-    let s = stands m row rules c.rules-rules.ensures c.requires r texts in
+    let texts = c.texts_stand.ensures.are row c.args.text.now r c.requires.row.host c.in-Ok.ensures.reading in
+    let s = stands m row rules c.rules-rules.ensures c.requires.row r texts in
     s.ask
 
 pub ask_of-ask-requires-clause-kind : goal.ask_of-ask-requires-clause-kind
@@ -80,8 +80,8 @@ ask_of-ask-requires-clause-kind c =
     let row = shape_of c.args.row.now in
     let rules = rules_shape c.rules-rules.result.now in
     let r = read_text_of c.in-Ok.fields in
-    let texts = c.texts_stand.ensures.are row c.args.text.now r c.requires.host c.in-Ok.ensures.reading in
-    let s = stands m row rules c.rules-rules.ensures c.requires r texts in
+    let texts = c.texts_stand.ensures.are row c.args.text.now r c.requires.row.host c.in-Ok.ensures.reading in
+    let s = stands m row rules c.rules-rules.ensures c.requires.row r texts in
     s.ask
 
 pub ask_of-ask-requires-clause-words : goal.ask_of-ask-requires-clause-words
@@ -90,8 +90,8 @@ ask_of-ask-requires-clause-words c =
     let row = shape_of c.args.row.now in
     let rules = rules_shape c.rules-rules.result.now in
     let r = read_text_of c.in-Ok.fields in
-    let texts = c.texts_stand.ensures.are row c.args.text.now r c.requires.host c.in-Ok.ensures.reading in
-    let s = stands m row rules c.rules-rules.ensures c.requires r texts in
+    let texts = c.texts_stand.ensures.are row c.args.text.now r c.requires.row.host c.in-Ok.ensures.reading in
+    let s = stands m row rules c.rules-rules.ensures c.requires.row r texts in
     let P : OpenedKeys → Type 0 = λ keys. AllMet m rules r keys (word_demands rules rules.words) in
     subst P (sym c.in-Ok-check_after.ensures.keys) (s.steps c.in-Ok-check_before.keys c.in-Ok-check_before.ensures.keys).words
 
@@ -106,7 +106,7 @@ returns-in-Err-clause-plan c =
     let P : Ask → Type 0 = λ ask. IsPlanned m row text ask (Unread code) [] fields in
     let Q : List (Bor (List ℕ)) → Type 0 = λ items. IsPlanned m row text c.empty_ask.result (Unread code) [] (λ g. fields_text m (rules_of row) row g (record { texts = map shown items; trailer = [] })) in
     record {
-      followed = c.requires;
+      followed = c.requires.row;
       planned = subst Q (sym c.new.ensures) (subst P (sym c.empty_ask.ensures) (c.planned.ensures.unread m row text code fields c.in-Err.ensures.reading));
       ready = λ e. absurd (cc);
       room = λ e. absurd (cc);
@@ -122,17 +122,17 @@ returns-in-Err-check_before-clause-plan c =
     let row = shape_of c.args.row.now in
     let rules = rules_shape c.rules-rules.result.now in
     let r = read_text_of c.in-Ok.fields in
-    let texts = c.texts_stand.ensures.are row c.args.text.now r c.requires.host c.in-Ok.ensures.reading in
+    let texts = c.texts_stand.ensures.are row c.args.text.now r c.requires.row.host c.in-Ok.ensures.reading in
     let text = c.args.text.now in
     let code = c.in-Err-check_before.code in
     let fields : Granted → List ℕ = λ g. fields_text m (rules_of row) row g r in
     let P : Ask → Type 0 = λ ask. IsPlanned m row text ask (Failed code) r.trailer fields in
     record {
-      followed = c.requires;
+      followed = c.requires.row;
       planned =
           subst P (sym c.empty_ask-in-Err-check_before.ensures)
           (c.planned.ensures.failed m row text r code fields c.in-Ok.ensures.reading
-          (before_is m row rules c.rules-rules.ensures c.requires r texts (Some code.0) c.in-Err-check_before.ensures.fault) c.in-Ok.ensures.short);
+          (before_is m row rules c.rules-rules.ensures c.requires.row r texts (Some code.0) c.in-Err-check_before.ensures.fault) c.in-Ok.ensures.short);
       ready = λ e. absurd (cc);
       room = λ e. absurd (cc);
     }
@@ -147,18 +147,18 @@ returns-in-Err-check_after-clause-plan c =
     let row = shape_of c.args.row.now in
     let rules = rules_shape c.rules-rules.result.now in
     let r = read_text_of c.in-Ok.fields in
-    let texts = c.texts_stand.ensures.are row c.args.text.now r c.requires.host c.in-Ok.ensures.reading in
+    let texts = c.texts_stand.ensures.are row c.args.text.now r c.requires.row.host c.in-Ok.ensures.reading in
     let text = c.args.text.now in
     let code = c.in-Err-check_after.code in
     let fields : Granted → List ℕ = λ g. fields_text m (rules_of row) row g r in
     let asked = c.late_ask-ask.ensures in
     record {
-      followed = c.requires;
+      followed = c.requires.row;
       planned =
           c.planned.ensures.passed m row text r c.late_ask-ask.result (Some code) fields c.in-Ok.ensures.reading
-          (before_is m row rules c.rules-rules.ensures c.requires r texts None c.in-Ok-check_before.ensures.fault)
-          (ask_is m row rules c.rules-rules.ensures c.requires r texts c.late_ask-ask.result asked.ask) asked.may
-          (after_is m row rules c.rules-rules.ensures c.requires r texts (Some code.0) c.in-Err-check_after.ensures.fault) c.in-Ok.ensures.short (λ g none. absurd (cc));
+          (before_is m row rules c.rules-rules.ensures c.requires.row r texts None c.in-Ok-check_before.ensures.fault)
+          (ask_is m row rules c.rules-rules.ensures c.requires.row r texts c.late_ask-ask.result asked.ask) asked.may
+          (after_is m row rules c.rules-rules.ensures c.requires.row r texts (Some code.0) c.in-Err-check_after.ensures.fault) c.in-Ok.ensures.short (λ g none. absurd (cc));
       ready = λ e. absurd (cc);
       room = λ e. absurd (cc);
     }
@@ -173,20 +173,20 @@ returns-in-Ok-check_after-clause-plan c =
     let row = shape_of c.args.row.now in
     let rules = rules_shape c.rules-rules.result.now in
     let r = read_text_of c.in-Ok.fields in
-    let texts = c.texts_stand.ensures.are row c.args.text.now r c.requires.host c.in-Ok.ensures.reading in
+    let texts = c.texts_stand.ensures.are row c.args.text.now r c.requires.row.host c.in-Ok.ensures.reading in
     let text = c.args.text.now in
     let fields : Granted → List ℕ = λ g. fields_text m (rules_of row) row g r in
     let asked = c.ask_of-ask.ensures in
     let h = c.in-Ok-check_after.ensures in
     record {
-      followed = c.requires;
+      followed = c.requires.row;
       planned =
           c.planned.ensures.passed m row text r c.ask_of-ask.result None fields c.in-Ok.ensures.reading
-          (before_is m row rules c.rules-rules.ensures c.requires r texts None c.in-Ok-check_before.ensures.fault)
-          (ask_is m row rules c.rules-rules.ensures c.requires r texts c.ask_of-ask.result asked.ask) asked.may
-          (after_is m row rules c.rules-rules.ensures c.requires r texts None h.fault) c.in-Ok.ensures.short (λ g none. refl);
-      ready = λ e. ready_is m row rules c.rules-rules.ensures c.requires r texts c.in-Ok-check_before.keys c.in-Ok-check_after.held c.in-Ok-check_before.ensures.keys h.keys h.pin h.value h.chain;
-      room = λ e. c.requires.room text r texts c.in-Ok.ensures.reads;
+          (before_is m row rules c.rules-rules.ensures c.requires.row r texts None c.in-Ok-check_before.ensures.fault)
+          (ask_is m row rules c.rules-rules.ensures c.requires.row r texts c.ask_of-ask.result asked.ask) asked.may
+          (after_is m row rules c.rules-rules.ensures c.requires.row r texts None h.fault) c.in-Ok.ensures.short (λ g none. refl);
+      ready = λ e. ready_is m row rules c.rules-rules.ensures c.requires.row r texts c.in-Ok-check_before.keys c.in-Ok-check_after.held c.in-Ok-check_before.ensures.keys h.keys h.pin h.value h.chain;
+      room = λ e. c.requires.row.room text r texts c.in-Ok.ensures.reads;
     }
 
 pub returns-in-Ok-check_after-clause-ask : goal.returns-in-Ok-check_after-clause-ask

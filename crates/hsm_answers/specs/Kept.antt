@@ -1,0 +1,40 @@
+-- The keys that a message's checks open under the LMK, as entries of a cache.
+use Rattle.std.specs.Prelude.{ℕ, ◌&&◌, if◌then◌else◌, List, [], ◌∷◌, ◌++◌, Option, Some, None, is_some, Result, Ok, Err}
+use Rattle.hsm_types.specs.declared.types.KeyType.{KeyType}
+use Rattle.hsm_lmk.specs.Opened.{opened}
+use Rattle.hsm_lmk.specs.Sealing.{wrap}
+use Rattle.hsm_lmk.specs.declared.kept.KeyEntry.{KeyEntry}
+use Rattle.hsm_rows.specs.declared.settings.Module.{Module}
+use Rattle.hsm_rows.specs.declared.row.Code.{Code}
+use Rattle.hsm_rows.specs.declared.rules.KeyCheck.{KeyCheck}
+use Rattle.hsm_rows.specs.declared.rules.KeyCheck.TheVariants.{GivenKey, Target}
+use Rattle.hsm_rows.specs.declared.rules.Under.TheVariants.{Lmk, KeyAt}
+use Rattle.hsm_rows.specs.Reading.{reading, ReadText, is_end}
+use Rattle.hsm_rows.specs.Rules.{RowRules}
+use Rattle.hsm_rows.specs.Table.{RowShape, rules_of}
+use Rattle.hsm_answers.specs.Keys.{KeyData, field_text, key_data, key_fault, set_of, type_of}
+
+-- the entry of a key text of the type
+abbrev pub entry_for : List (List (List ℕ)) → KeyType → Option KeyData → List KeyEntry
+entry_for set ty None = []
+entry_for set ty (Some k) = record { ty = ty; scheme = k.scheme; text = record { items = k.bytes }; key = opened (wrap set ty) k.scheme k.bytes } ∷ []
+
+-- the entry of a check: of a key under the LMK, but none of an absent wrapping key
+abbrev pub check_entries : Module → ReadText → KeyCheck → List KeyEntry
+check_entries m r (GivenKey k Lmk ty wraps rule parity) = if wraps && is_end (field_text r k) then [] else entry_for (set_of m) (type_of r ty) (key_data r k)
+check_entries m r (GivenKey k (KeyAt kek) ty wraps rule parity) = []
+check_entries m r (Target ty k second) = []
+
+-- those of the checks in their order, up to the first that fails
+abbrev pub checks_entries : Module → RowRules → ReadText → List KeyCheck → List KeyEntry
+checks_entries m rules r [] = []
+checks_entries m rules r (c ∷ cs) = if is_some (key_fault m rules r c) then [] else check_entries m r c ++ checks_entries m rules r cs
+
+-- none where the fields don't read
+abbrev pub read_entries : Module → RowRules → Result ReadText Code → List KeyEntry
+read_entries m rules (Err code) = []
+read_entries m rules (Ok r) = checks_entries m rules r rules.keys
+
+-- what a message of the row opens; the text is what follows the command code
+unfoldable pub opened_by : Module → RowShape → List ℕ → List KeyEntry
+opened_by m row text = read_entries m (rules_of row) (reading row text)
