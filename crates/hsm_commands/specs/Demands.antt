@@ -43,19 +43,13 @@ gives_pin (DrawnPin len account) = false
 
 -- whether a PIN is there at the entry: one that was given and is held, or one to be drawn
 abbrev pub pin_there : PinSource → Bool → Bool
-pin_there NoPin held = held
-pin_there (BlockPin block key format account) held = held
-pin_there (LmkPin text account) held = held
-pin_there (ClearPin text account) held = held
 pin_there (DrawnPin len account) held = true
+pin_there _ held = held
 
 -- whether the PIN is held after the check
 abbrev pub pin_after : Bool → DataCheck → Bool
 pin_after held PinCheck = true
-pin_after held (TableCheck k) = held
-pin_after held (LongerThan k) = held
-pin_after held (ShorterThan k) = held
-pin_after held (MacCheck f) = held
+pin_after held _ = held
 
 -- whether the PIN is held after all of them
 abbrev pub pin_at_end : Bool → List DataCheck → Bool
@@ -66,9 +60,7 @@ pin_at_end held (c ∷ cs) = pin_at_end (pin_after held c) cs
 abbrev pub has_pin : Bool → DataCheck → Bool
 has_pin held (LongerThan k) = held
 has_pin held (ShorterThan k) = held
-has_pin held (TableCheck k) = true
-has_pin held PinCheck = true
-has_pin held (MacCheck f) = true
+has_pin held _ = true
 
 -- each check has the PIN that it needs
 abbrev pub have_pin : Bool → List DataCheck → Bool
@@ -81,17 +73,13 @@ holds_pin rules = gives_pin rules.pin && pin_at_end false rules.checks
 
 -- the words are those of a key
 abbrev pub draws_key : Words → Bool
-draws_key NoWords = false
 draws_key (TwoPerPart k) = true
-draws_key (AsLength k) = false
-draws_key (FillOf k) = false
+draws_key _ = false
 
 -- the words are those of the fill of the format in this field
 abbrev pub fills : ℕ → Words → Bool
-fills format NoWords = false
-fills format (TwoPerPart k) = false
-fills format (AsLength k) = false
 fills format (FillOf k) = format == k
+fills format _ = false
 
 -- ---- demands
 
@@ -148,8 +136,7 @@ IsTwelveDigits r (Some k) = AreDigits 12 (field_text r k)
 abbrev pub secret_parts : Module → RowRules → ReadText → Secret → ℕ
 secret_parts m rules r (Opened k) = length (lmk_key m rules r k)
 secret_parts m rules r (OpenedUnder k kek) = length (wrapped_key m rules r k kek)
-secret_parts m rules r DrawnKey = made_parts rules r
-secret_parts m rules r Joined = made_parts rules r
+secret_parts m rules r _ = made_parts rules r
 
 module _ (m : Module) (rules : RowRules) (r : ReadText) (keys : OpenedKeys) where
   -- the key of field k was opened under the LMK

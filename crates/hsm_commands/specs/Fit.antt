@@ -327,17 +327,13 @@ rules_fit row = ((not (is_console row) && length row.reply == 2) && room_fits ro
 
 -- the family is that of the data commands
 abbrev pub is_data : Family → Bool
-is_data family.Key = false
-is_data family.Pin = false
 is_data family.Data = true
-is_data family.Console = false
+is_data _ = false
 
 -- the family is the console's
 abbrev pub is_console_family : Family → Bool
-is_console_family family.Key = false
-is_console_family family.Pin = false
-is_console_family family.Data = false
 is_console_family family.Console = true
+is_console_family _ = false
 
 -- the rules of the row fit, it is of a host's family, and it echoes a text only if it is a data command's
 abbrev pub fits_host : RowShape → Bool

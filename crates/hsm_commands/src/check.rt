@@ -26,6 +26,7 @@ use hsm_rows::{ActUse, Code, KeyCheck, LengthRule, Secret, TypeSource, Under, sa
 use hsm_types::{Permit, length_allowed, scheme_parts};
 
 // The number of parts that a scheme field asks for.
+#[inline]
 fn parts_by_scheme(request: &Request<'_, '_>, rule: LengthRule) -> Option<usize>
     ensures { result ≡ parts_by_scheme rule (texts_of request.now) }
 {
@@ -36,6 +37,7 @@ fn parts_by_scheme(request: &Request<'_, '_>, rule: LengthRule) -> Option<usize>
 }
 
 // The number of parts that a flag or an algorithm asks for.
+#[inline]
 fn parts_by_rule(request: &Request<'_, '_>, rule: LengthRule) -> Option<usize>
     ensures { result ≡ parts_by_rule rule (texts_of request.now) }
 {
@@ -89,6 +91,7 @@ fn check_target(
 }
 
 // Whether it is an absent wrapping key.
+#[inline]
 fn is_left_out(wraps: bool, text: &[u8]) -> bool
     ensures { result ≡ (wraps && is_end text.now) }
 {
@@ -96,6 +99,7 @@ fn is_left_out(wraps: bool, text: &[u8]) -> bool
 }
 
 // The key of a field under the LMK, or the code of what is wrong with it.
+#[inline]
 fn check_lmk(request: &Request<'_, '_>, field: u8, asked: &Asked) -> Result<Option<FieldKey>, Code>
     requires { type_of (texts_of request.now) (source_at field (row_rules request.now).keys) ≡ asked.now.ty }
     ensures fault { code_in result ≡ given_fault (wrapping_key (module_of request.now) (row_rules request.now) (texts_of request.now) Lmk asked.now.ty) Lmk asked.now (field_text (texts_of request.now) field) }

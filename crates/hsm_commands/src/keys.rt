@@ -19,6 +19,7 @@ pub(crate) struct OpenedKeys {
 }
 
 // The key, where it is that of field k.
+#[inline]
 pub(crate) fn found_in(held: &Option<FieldKey>, k: u8) -> Option<Key>
     ensures { result ≡ found_in held.now k }
 {
@@ -29,6 +30,7 @@ pub(crate) fn found_in(held: &Option<FieldKey>, k: u8) -> Option<Key>
 }
 
 // The key of field k, if it was opened.
+#[inline]
 pub(crate) fn key_by(keys: &OpenedKeys, k: u8) -> Option<Key>
     ensures { result ≡ key_by keys.now k }
 {
@@ -39,6 +41,7 @@ pub(crate) fn key_by(keys: &OpenedKeys, k: u8) -> Option<Key>
 }
 
 // The key of field k, which was opened.
+#[inline]
 pub(crate) fn held_key(keys: &OpenedKeys, k: u8) -> Key
     requires { is_some (key_by keys.now k) ≡ true }
     ensures { key_by keys.now k ≡ Some result }

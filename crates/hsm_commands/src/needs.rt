@@ -21,6 +21,7 @@ use hsm_types::{KeyType, Permit, scheme_parts};
 
 // The type that the row names.
 #[tactic(auto, unfolding(hsm_answers::specs::Keys::type_of))]
+#[inline]
 pub(crate) fn type_of(request: &Request<'_, '_>, source: TypeSource) -> KeyType
     ensures { result ≡ type_of (texts_of request.now) source }
 {
@@ -36,6 +37,7 @@ pub(crate) fn type_of(request: &Request<'_, '_>, source: TypeSource) -> KeyType
 }
 
 // Whether the row uses the act.
+#[inline]
 pub(crate) fn is_used(request: &Request<'_, '_>, where_present: Option<u8>) -> bool
     ensures { result ≡ is_used (texts_of request.now) where_present }
 {
@@ -46,6 +48,7 @@ pub(crate) fn is_used(request: &Request<'_, '_>, where_present: Option<u8>) -> b
 }
 
 // The permit of the act on the type that the row names.
+#[inline]
 pub(crate) fn act_permit(request: &Request<'_, '_>, act: &ActUse) -> Permit
     ensures { result ≡ act_permit (module_of request.now) (texts_of request.now) act.now }
 {

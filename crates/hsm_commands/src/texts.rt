@@ -13,6 +13,7 @@ use hsm_pinblock::Format;
 use hsm_rows::{text_at, two_digit_value};
 
 // The text of field k.
+#[inline]
 pub(crate) fn text_of<'m>(request: &Request<'_, 'm>, k: u8) -> &'m [u8]
     ensures { result.now ≡ field_text (texts_of request.now) k }
 {
@@ -37,6 +38,7 @@ pub(crate) fn block_of_field(request: &Request<'_, '_>, k: u8) -> u64
 }
 
 // The number of the two decimal digits of field k.
+#[inline]
 pub(crate) fn number_of(request: &Request<'_, '_>, k: u8) -> usize
     ensures { result ≡ number_at (texts_of request.now) k }
 {
@@ -44,6 +46,7 @@ pub(crate) fn number_of(request: &Request<'_, '_>, k: u8) -> usize
 }
 
 // The format that field k names.
+#[inline]
 pub(crate) fn format_of(request: &Request<'_, '_>, k: u8) -> Format
     ensures { result ≡ format_at (texts_of request.now) k }
 {

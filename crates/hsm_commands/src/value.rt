@@ -60,6 +60,7 @@ pub(crate) struct Texts {
 }
 
 // A value without a chaining value.
+#[inline]
 fn alone(value: Written) -> Texts
     ensures { result ≡ record { value = value; chain = Nothing } }
 {
@@ -70,6 +71,7 @@ fn alone(value: Written) -> Texts
 }
 
 // The account of a PIN.
+#[inline]
 pub(crate) fn account_of(request: &Request<'_, '_>, source: PinSource) -> [u8; 12]
     requires { IsTwelveDigits (texts_of request.now) (account_field source) }
     ensures account { result ≡ pin_account (texts_of request.now) source }
@@ -86,6 +88,7 @@ pub(crate) fn account_of(request: &Request<'_, '_>, source: PinSource) -> [u8; 1
 }
 
 // The PIN that the data checks left.
+#[inline]
 pub(crate) fn held_pin(request: &Request<'_, '_>, pin: &Option<Pin>) -> Pin
     requires holds { holds_pin (row_rules request.now) ≡ true }
     requires left { Leaves request.now pin.now }

@@ -20,6 +20,7 @@ pub struct DataPlan<'m> {
 
 impl<'m> DataPlan<'m> {
     /// The message's ask.
+    #[inline(always)]
     pub fn ask(&self) -> Ask
         ensures { result ≡ plan_ask self.now }
     {
@@ -28,6 +29,7 @@ impl<'m> DataPlan<'m> {
 }
 
 /// The plan of a message of a data command. The text is what follows the command code.
+#[inline(always)]
 pub fn prepare<'m>(module: &Module, row: &'static Row, text: &'m [u8]) -> DataPlan<'m>
     requires { IsDataRow (shape_of row.now) }
     ensures row { plan_row result ≡ shape_of row.now }
@@ -44,6 +46,7 @@ pub fn prepare<'m>(module: &Module, row: &'static Row, text: &'m [u8]) -> DataPl
 
 /// Appends the answer of the plan's message at its entry: the reply code, the error code, with 00 the reply fields, and
 /// the trailer.
+#[inline(always)]
 pub fn finish(module: &Module, plan: &DataPlan<'_>, granted: &Granted, reply: &mut Reply)
     requires plan { IsPlanOf «module».now plan.now }
     requires fits { Fits (plan_ask plan.now) granted.now }
