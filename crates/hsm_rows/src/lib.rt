@@ -27,4 +27,3 @@ pub use rules::{
 pub use settings::Module;
 pub use table::{ROWS, console_row, row_of, rows};
 pub use texts::{decimal_value, digit, same_text, text_at, token_run, two_digit_value};
-
