@@ -208,14 +208,13 @@ pub(crate) fn permit_code(request: &Request<'_, '_>, acts: &[ActUse]) -> Option<
     }
 }
 
-// 75 where a part of a key equals the part before it.
+// 75 where a part of the row's key equals the part before it.
 #[tactic(auto, unfolding(hsm_answers::specs::Checks::parts_fault, hsm_answers::specs::Values::secret_key))]
-fn parts_code(request: &Request<'_, '_>, keys: &OpenedKeys, secret: Option<Secret>) -> Option<Code>
-    requires { Meets request.now keys.now (parts_demands secret) }
-    ensures { option_map number_of result ≡ parts_fault (module_of request.now) (row_rules request.now) (texts_of request.now) secret }
+fn parts_code(request: &Request<'_, '_>, keys: &OpenedKeys) -> Option<Code>
+    requires { Meets request.now keys.now (parts_demands (row_rules request.now).parts_differ) }
+    ensures { option_map number_of result ≡ parts_fault (module_of request.now) (row_rules request.now) (texts_of request.now) (row_rules request.now).parts_differ }
 {
-    let _ = request;
-    let key = match secret {
+    let key = match request.rules.parts_differ {
         None => return None,
         Some(Secret::Opened(k)) => held_key(keys, k),
         Some(Secret::OpenedUnder { field, .. }) => held_key(keys, field),
@@ -243,7 +242,7 @@ pub(crate) fn check_before(request: &Request<'_, '_>) -> Result<OpenedKeys, Code
     if let Some(code) = permit_code(request, rules.acts) {
         return Err(code);
     }
-    match parts_code(request, &keys, rules.parts_differ) {
+    match parts_code(request, &keys) {
         Some(code) => Err(code),
         None => Ok(keys),
     }

@@ -175,7 +175,7 @@ fn put_sealed_pin(entry: &Entry<'_, '_>, reply: &mut Reply)
     ensures grown { length reply.new ≡ length reply.old + 16 }
 {
     let request = entry.request;
-    let account = account_of(request, request.rules.pin);
+    let account = account_of(request);
     put_sealed(&request.module.lmk, &entry_pin(entry), &account, reply);
 }
 
@@ -189,7 +189,7 @@ fn put_pin_block(entry: &Entry<'_, '_>, format: u8, key: u8, reply: &mut Reply)
     ensures grown { length reply.new ≡ length reply.old + 16 }
 {
     let request = entry.request;
-    let account = account_of(request, request.rules.pin);
+    let account = account_of(request);
     let pin = held_pin(request, &entry.held.pin);
     let block = block_drawn(
         request.module,

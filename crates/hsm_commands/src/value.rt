@@ -70,14 +70,14 @@ fn alone(value: Written) -> Texts
     }
 }
 
-// The account of a PIN.
+// The account of the row's PIN.
 #[inline]
-pub(crate) fn account_of(request: &Request<'_, '_>, source: PinSource) -> [u8; 12]
-    requires { IsTwelveDigits (texts_of request.now) (account_field source) }
-    ensures account { result ≡ pin_account (texts_of request.now) source }
+pub(crate) fn account_of(request: &Request<'_, '_>) -> [u8; 12]
+    requires { IsTwelveDigits (texts_of request.now) (account_field (row_rules request.now).pin) }
+    ensures account { result ≡ pin_account (texts_of request.now) (row_rules request.now).pin }
     ensures decimal { IsTrue (list_all is_decimal result) }
 {
-    match source {
+    match request.rules.pin {
         PinSource::BlockPin { account, .. }
         | PinSource::LmkPin { account, .. }
         | PinSource::ClearPin { account, .. }
@@ -131,7 +131,7 @@ pub(crate) fn value_of(
         ValueSource::NoValue => alone(Written::Nothing),
         ValueSource::PvvOf { pair, index } => {
             let pair = pair_of(&held_key(keys, pair));
-            let account = account_of(request, request.rules.pin);
+            let account = account_of(request);
             alone(Written::Four(pvv_text(
                 &pair,
                 &account,
@@ -145,7 +145,7 @@ pub(crate) fn value_of(
             validation,
             check,
         } => {
-            let account = account_of(request, request.rules.pin);
+            let account = account_of(request);
             let table = digits_of(request, table);
             let pvk = held_key(keys, pvk);
             let check = number_of(request, check);

@@ -14,3 +14,4 @@ pub mod Apart
 pub mod Printing
 pub mod LocalLaws
 pub mod MadeLaws
+pub mod MakeWords

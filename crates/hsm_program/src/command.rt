@@ -1,10 +1,10 @@
 //! The words of the command line.
 
-ghost use Rattle.std.specs.Prelude.{◌≡◌, IfSome};
+ghost use Rattle.std.specs.Prelude.{◌≡◌, ◌⊎◌, ◌∷◌, [], ℕ, List, IfSome, codes};
 ghost use Rattle.std.specs.Option.{option_map};
 ghost use Rattle.hsm_rows.specs.Table.{IsHostRow, host_rows, row_with, shape_of, shown_shape};
 ghost use Rattle.hsm_session.specs.Scripts.{not_zero, number_within};
-ghost use Rattle.hsm_program.specs.Words.{ReadsWords, ReadsRest, asked_check, asked_code, asked_make, asked_script, asked_serve, is_file_word, names};
+ghost use Rattle.hsm_program.specs.Words.{ReadsWords, ReadsRest, asked, make, usage, asked_check, asked_code, asked_make, asked_script, asked_serve, is_file_word, names};
 
 use hsm_rows::{Row, row_of};
 use hsm_session::number_within;
@@ -142,6 +142,23 @@ fn read_make(words: &[String]) -> Result<Command, WordsFault>
     }
     Ok(Command::Make { count, seed })
 }
+
+/// `make` is a command with just two more words, the decimal numbers of 1 to 50,000 messages and of a seed of 32 bits, without sign
+/// and leading zeros.
+pub fn words_of_make()
+    ensures least { asked (codes "make" ∷ codes "1" ∷ codes "0" ∷ []) ≡ make 1 0 }
+    ensures greatest { asked (codes "make" ∷ codes "50000" ∷ codes "4294967295" ∷ []) ≡ make 50000 4294967295 }
+    ensures fewer { (asked (codes "make" ∷ []) ≡ usage 1) × (asked (codes "make" ∷ codes "1" ∷ []) ≡ usage 2) }
+    ensures more { (word : List ℕ) (rest : List (List ℕ)) → asked (codes "make" ∷ codes "1" ∷ codes "0" ∷ word ∷ rest) ≡ usage 3 }
+    ensures many { (rest : List (List ℕ)) → asked (codes "make" ∷ codes "50001" ∷ rest) ≡ usage 1 }
+    ensures large_seed { (rest : List (List ℕ)) → asked (codes "make" ∷ codes "1" ∷ codes "4294967296" ∷ rest) ≡ usage 2 }
+    // A number of messages that begins with 0, also 0 itself.
+    ensures zero { (digits : List ℕ) (rest : List (List ℕ)) → asked (codes "make" ∷ (48 ∷ digits) ∷ rest) ≡ usage 1 }
+    ensures seed_zero { (digit : ℕ) (digits : List ℕ) (rest : List (List ℕ)) → asked (codes "make" ∷ codes "1" ∷ (48 ∷ digit ∷ digits) ∷ rest) ≡ usage 2 }
+    // `+` and `-`.
+    ensures sign { (sign : ℕ) (digits : List ℕ) (rest : List (List ℕ)) → (sign ≡ 43) ⊎ (sign ≡ 45) → asked (codes "make" ∷ (sign ∷ digits) ∷ rest) ≡ usage 1 }
+    ensures seed_sign { (sign : ℕ) (digits : List ℕ) (rest : List (List ℕ)) → (sign ≡ 43) ⊎ (sign ≡ 45) → asked (codes "make" ∷ codes "1" ∷ (sign ∷ digits) ∷ rest) ≡ usage 2 }
+{}
 
 // The number of messages of a made script.
 fn count_of(word: &[u8]) -> Option<u32>

@@ -12,7 +12,7 @@ mod reading;
 mod run;
 mod serve;
 
-pub use command::{Command, WordsFault, read_words};
+pub use command::{Command, WordsFault, read_words, words_of_make};
 pub use local::hsm_local;
 pub use outcome::Outcome;
 pub use reading::{FILE_LIMIT, ReadingFault, read_all};
