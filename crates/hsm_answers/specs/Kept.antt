@@ -13,6 +13,7 @@ use Rattle.hsm_rows.specs.Reading.{reading, ReadText, is_end}
 use Rattle.hsm_rows.specs.Rules.{RowRules}
 use Rattle.hsm_rows.specs.Table.{RowShape, rules_of}
 use Rattle.hsm_answers.specs.Keys.{KeyData, field_text, key_data, key_fault, set_of, type_of}
+use Rattle.hsm_answers.specs.Messages.{Side, host, console, command_of, enabled_row, text_after}
 
 -- the entry of a key text of the type
 abbrev pub entry_for : List (List (List ℕ)) → KeyType → Option KeyData → List KeyEntry
@@ -38,3 +39,13 @@ read_entries m rules (Ok r) = checks_entries m rules r rules.keys
 -- what a message of the row opens; the text is what follows the command code
 unfoldable pub opened_by : Module → RowShape → List ℕ → List KeyEntry
 opened_by m row text = read_entries m (rules_of row) (reading row text)
+
+-- what a host's message in the row opens; a command in no row opens nothing
+abbrev pub opened_in : Module → List ℕ → Option RowShape → List KeyEntry
+opened_in m message None = []
+opened_in m message (Some row) = opened_by m row (text_after m host message)
+
+-- what a message opens; the console's open nothing
+abbrev pub opened_of : Module → Side → List ℕ → List KeyEntry
+opened_of m host message = opened_in m message (enabled_row m host (command_of m host message))
+opened_of m console message = []

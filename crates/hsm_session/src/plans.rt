@@ -4,8 +4,11 @@ ghost use Rattle.std.specs.Prelude.{◌≡◌, ◌+◌, ◌≤◌, ◌++◌, len
 ghost use Rattle.std.specs.List.{list_any};
 ghost use Rattle.std.specs.Option.{option_map};
 ghost use Rattle.hsm_auth.specs.History.{CanAsk, Fits};
+ghost use Rattle.hsm_lmk.specs.Cache.{Agrees, kept_all};
+ghost use Rattle.hsm_lmk.specs.Caches.{capacity_of, kept_in};
 ghost use Rattle.hsm_rows.specs.Table.{IsConsoleRow, IsHostRow, shape_of, shown_shape};
 ghost use Rattle.hsm_answers.specs.Asks.{ask_of};
+ghost use Rattle.hsm_answers.specs.Kept.{opened_by, opened_of};
 ghost use Rattle.hsm_answers.specs.Messages.{command_of, console, enabled_row, header_of, host, message_answer, message_ask, text_after, unknown_answer};
 ghost use Rattle.hsm_session.specs.Plans.{IsOwnPlan, IsPlanOf, IsPlanOfMessage, least_for, least_length, plan_ask, plan_kind, plan_message, planned_ask, planned_row, planned_text, side_of};
 
@@ -15,6 +18,7 @@ use hsm_commands::host_rows_followed;
 use hsm_console::ConsolePlan;
 use hsm_datacmd::DataPlan;
 use hsm_keycmd::KeyPlan;
+use hsm_lmk::KeyCache;
 use hsm_pincmd::PinPlan;
 use hsm_rows::{Family, Module, Row, console_row, row_of, same_text, token_run};
 use hsm_text::Reply;
@@ -87,35 +91,48 @@ fn enabled_console_row(module: &Module, word: &[u8]) -> Option<&'static Row>
 }
 
 // The plan of a host row's text.
-fn plan_row<'m>(module: &Module, row: &'static Row, text: &'m [u8]) -> Planned<'m>
-    requires { IsHostRow (shape_of row.now) }
+fn plan_row<'m>(
+    module: &Module,
+    cache: &mut KeyCache,
+    row: &'static Row,
+    text: &'m [u8],
+) -> Planned<'m>
+    requires agrees { Agrees «module».now.lmk (kept_in cache.old).entries }
+    requires host { IsHostRow (shape_of row.now) }
     ensures row { planned_row result ≡ Some (shape_of row.now) }
     ensures text { planned_text result ≡ text.now }
     ensures own { IsOwnPlan «module».now result }
     ensures ask { planned_ask result ≡ ask_of «module».now (shape_of row.now) text.now }
     ensures may { CanAsk (planned_ask result) }
+    ensures agrees { Agrees «module».now.lmk (kept_in cache.new).entries }
+    ensures capacity { capacity_of cache.new ≡ capacity_of cache.old }
+    ensures kept { kept_in cache.new ≡ kept_all (capacity_of cache.old) (kept_in cache.old) (opened_by «module».now (shape_of row.now) text.now) }
 {
     host_rows_followed();
     match row.family {
-        Family::Key => Planned::Key(hsm_keycmd::prepare(module, row, text)),
-        Family::Pin => Planned::Pin(hsm_pincmd::prepare(module, row, text)),
-        Family::Data => Planned::Data(hsm_datacmd::prepare(module, row, text)),
+        Family::Key => Planned::Key(hsm_keycmd::prepare_cached(module, cache, row, text)),
+        Family::Pin => Planned::Pin(hsm_pincmd::prepare_cached(module, cache, row, text)),
+        Family::Data => Planned::Data(hsm_datacmd::prepare_cached(module, cache, row, text)),
         // no host row is of the console's family
         Family::Console => unreachable!(),
     }
 }
 
 // The plan of a host's message.
-fn plan_host<'m>(module: &Module, message: &'m [u8]) -> Planned<'m>
-    requires { least_length «module».now ≤ length message.now }
+fn plan_host<'m>(module: &Module, cache: &mut KeyCache, message: &'m [u8]) -> Planned<'m>
+    requires agrees { Agrees «module».now.lmk (kept_in cache.old).entries }
+    requires least { least_length «module».now ≤ length message.now }
     ensures plan { IsPlanOfMessage «module».now host message.now result }
     ensures ask { planned_ask result ≡ message_ask «module».now host message.now }
     ensures may { CanAsk (planned_ask result) }
+    ensures agrees { Agrees «module».now.lmk (kept_in cache.new).entries }
+    ensures capacity { capacity_of cache.new ≡ capacity_of cache.old }
+    ensures kept { kept_in cache.new ≡ kept_all (capacity_of cache.old) (kept_in cache.old) (opened_of «module».now host message.now) }
 {
     let (_, command) = message.split_at(usize::from(module.header));
     let (code, text) = command.split_at(2);
     match enabled_row(module, &[code[0], code[1]]) {
-        Some(row) => plan_row(module, row, text),
+        Some(row) => plan_row(module, cache, row, text),
         None => Planned::Unknown,
     }
 }
@@ -133,7 +150,41 @@ fn plan_console<'m>(module: &Module, message: &'m [u8]) -> Planned<'m>
     }
 }
 
-/// The plan of a message.
+/// The plan of a message. The keys of a host's message that the cache keeps are not opened anew; other ones under the LMK are
+/// opened, and kept up to the first key with a fault.
+pub fn prepare_cached<'m>(
+    module: &Module,
+    cache: &mut KeyCache,
+    kind: Place,
+    message: &'m [u8],
+) -> Plan<'m>
+    requires agrees { Agrees «module».now.lmk (kept_in cache.old).entries }
+    requires least { least_for «module».now kind ≤ length message.now }
+    requires most { length message.now ≤ 65535 }
+    ensures kind { plan_kind result ≡ kind }
+    ensures message { plan_message result ≡ message.now }
+    ensures ask { plan_ask result ≡ message_ask «module».now (side_of kind) message.now }
+    ensures may { CanAsk (plan_ask result) }
+    ensures plan { IsPlanOf «module».now result }
+    ensures agrees { Agrees «module».now.lmk (kept_in cache.new).entries }
+    ensures capacity { capacity_of cache.new ≡ capacity_of cache.old }
+    ensures kept { kept_in cache.new ≡ kept_all (capacity_of cache.old) (kept_in cache.old) (opened_of «module».now (side_of kind) message.now) }
+{
+    match kind {
+        Place::Host => Plan {
+            kind,
+            message,
+            planned: plan_host(module, cache, message),
+        },
+        Place::Console => Plan {
+            kind,
+            message,
+            planned: plan_console(module, message),
+        },
+    }
+}
+
+/// The same without a cache: each key is opened anew.
 pub fn prepare<'m>(module: &Module, kind: Place, message: &'m [u8]) -> Plan<'m>
     requires least { least_for «module».now kind ≤ length message.now }
     requires most { length message.now ≤ 65535 }
@@ -143,18 +194,7 @@ pub fn prepare<'m>(module: &Module, kind: Place, message: &'m [u8]) -> Plan<'m>
     ensures may { CanAsk (plan_ask result) }
     ensures plan { IsPlanOf «module».now result }
 {
-    match kind {
-        Place::Host => Plan {
-            kind,
-            message,
-            planned: plan_host(module, message),
-        },
-        Place::Console => Plan {
-            kind,
-            message,
-            planned: plan_console(module, message),
-        },
-    }
+    prepare_cached(module, &mut KeyCache::none(), kind, message)
 }
 
 // The header of a message, which only a host's has.

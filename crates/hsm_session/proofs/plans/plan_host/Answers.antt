@@ -14,7 +14,7 @@ returns-in-None-clause-ask c =
     let code = c.split_at-2.result.0.now in
     let text = c.split_at-2.result.1.now in
     let parts : IsCut m message code text =
-    cut m message c.split_at.result.1.now code text c.from.result c.requires c.from.ensures c.split_at.ensures.back c.split_at-2.ensures.front c.split_at-2.ensures.back in
+    cut m message c.split_at.result.1.now code text c.from.result c.requires.least c.from.ensures c.split_at.ensures.back c.split_at-2.ensures.front c.split_at-2.ensures.back in
     sym (unknown_ask m host message (code_row m message code text None parts (sym (ap (option_map shown_shape) c.in-None.is) ∙ c.enabled_row.ensures.row)))
 
 pub returns-in-None-clause-plan : goal.returns-in-None-clause-plan
@@ -24,7 +24,7 @@ returns-in-None-clause-plan c =
     let code = c.split_at-2.result.0.now in
     let text = c.split_at-2.result.1.now in
     let parts : IsCut m message code text =
-    cut m message c.split_at.result.1.now code text c.from.result c.requires c.from.ensures c.split_at.ensures.back c.split_at-2.ensures.front c.split_at-2.ensures.back in
+    cut m message c.split_at.result.1.now code text c.from.result c.requires.least c.from.ensures c.split_at.ensures.back c.split_at-2.ensures.front c.split_at-2.ensures.back in
     unknown_plan m host message (code_row m message code text None parts (sym (ap (option_map shown_shape) c.in-None.is) ∙ c.enabled_row.ensures.row))
 
 pub returns-in-Some-clause-ask : goal.returns-in-Some-clause-ask
@@ -35,7 +35,7 @@ returns-in-Some-clause-ask c =
     let text = c.split_at-2.result.1.now in
     let row = shape_of c.in-Some.row.now in
     let parts : IsCut m message code text =
-    cut m message c.split_at.result.1.now code text c.from.result c.requires c.from.ensures c.split_at.ensures.back c.split_at-2.ensures.front c.split_at-2.ensures.back in
+    cut m message c.split_at.result.1.now code text c.from.result c.requires.least c.from.ensures c.split_at.ensures.back c.split_at-2.ensures.front c.split_at-2.ensures.back in
     c.plan_row.ensures.ask ∙ ap (λ (t : List ℕ). ask_of m row t) parts.is_text
     ∙ sym (row_ask_is m host message row (code_row m message code text (Some row) parts (sym (ap (option_map shown_shape) c.in-Some.is) ∙ c.enabled_row.ensures.row)))
 
@@ -47,6 +47,6 @@ returns-in-Some-clause-plan c =
     let text = c.split_at-2.result.1.now in
     let row = shape_of c.in-Some.row.now in
     let parts : IsCut m message code text =
-    cut m message c.split_at.result.1.now code text c.from.result c.requires c.from.ensures c.split_at.ensures.back c.split_at-2.ensures.front c.split_at-2.ensures.back in
+    cut m message c.split_at.result.1.now code text c.from.result c.requires.least c.from.ensures c.split_at.ensures.back c.split_at-2.ensures.front c.split_at-2.ensures.back in
     row_plan m host message text row c.plan_row.result (code_row m message code text (Some row) parts (sym (ap (option_map shown_shape) c.in-Some.is) ∙ c.enabled_row.ensures.row))
     parts.is_text c.plan_row.ensures.row c.plan_row.ensures.text c.plan_row.ensures.own
