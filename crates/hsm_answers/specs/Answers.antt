@@ -8,7 +8,7 @@ use Rattle.hsm_rows.specs.Table.{RowShape, rules_of}
 use Rattle.hsm_rows.specs.Texts.{two_digits}
 use Rattle.hsm_rows.specs.Reading.{reading, ReadText, is_end, is_console}
 use Rattle.hsm_rows.specs.declared.rules.AskKind.{AskKind}
-use Rattle.hsm_rows.specs.declared.rules.AskKind.TheVariants.{UseAsk, LookAsk, RecentAsk, CancelAllAsk, AuthoriseAsk, CancelAsk}
+use Rattle.hsm_rows.specs.declared.rules.AskKind.TheVariants.{AuthoriseAsk}
 use Rattle.hsm_answers.specs.Values.{values, spaced}
 use Rattle.hsm_answers.specs.Checks.{check_read}
 use Rattle.hsm_answers.specs.Asks.{words_hold}
