@@ -8,7 +8,7 @@ use Rattle.hsm_rows.specs.Table.{RowShape, rules_of}
 use Rattle.hsm_rows.specs.Texts.{two_digits}
 use Rattle.hsm_rows.specs.Reading.{reading, ReadText, is_end, is_console}
 use Rattle.hsm_rows.specs.declared.rules.AskKind.{AskKind}
-use Rattle.hsm_rows.specs.declared.rules.AskKind.TheVariants.{UseAsk, LookAsk, RecentAsk, CancelAllAsk, AuthoriseAsk, CancelAsk}
+use Rattle.hsm_rows.specs.declared.rules.AskKind.TheVariants.{AuthoriseAsk}
 use Rattle.hsm_answers.specs.Values.{values, spaced}
 use Rattle.hsm_answers.specs.Checks.{check_read}
 use Rattle.hsm_answers.specs.Asks.{words_hold}
@@ -30,21 +30,12 @@ no_code code = codes "NO " ++ two_digits code
 -- the row authorises
 abbrev pub is_authorise : AskKind → Bool
 is_authorise AuthoriseAsk = true
-is_authorise UseAsk = false
-is_authorise LookAsk = false
-is_authorise RecentAsk = false
-is_authorise CancelAllAsk = false
-is_authorise CancelAsk = false
+is_authorise _ = false
 
 -- no more grants fit
 abbrev pub is_full : Granted → Bool
 is_full granted.Full = true
-is_full (granted.Use first) = false
-is_full granted.Refused = false
-is_full granted.Authorised = false
-is_full (granted.Cancelled count) = false
-is_full (granted.Seen moment place grants) = false
-is_full (granted.Recent notes) = false
+is_full _ = false
 
 -- the field is there
 abbrev pub is_present : List ℕ → Bool

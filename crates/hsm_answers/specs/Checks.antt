@@ -97,12 +97,7 @@ needs_of m rules r = act_needs m r rules.acts ++ map (fixed_need r) rules.needs
 -- a need wasn't covered at the entry
 abbrev pub is_refused : Granted → Bool
 is_refused granted.Refused = true
-is_refused (granted.Use first) = false
-is_refused granted.Authorised = false
-is_refused granted.Full = false
-is_refused (granted.Cancelled count) = false
-is_refused (granted.Seen moment place grants) = false
-is_refused (granted.Recent notes) = false
+is_refused _ = false
 
 -- check 7: 17 where a need isn't covered at the entry
 abbrev pub entry_fault : Granted → Option ℕ

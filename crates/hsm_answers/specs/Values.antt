@@ -38,12 +38,7 @@ use Rattle.hsm_answers.specs.Macs.{ends_message, mac_text, chain_text}
 -- the place of the first random word of a granted use
 abbrev pub first_of : Granted → ℕ
 first_of (granted.Use first) = first
-first_of granted.Refused = 0
-first_of granted.Authorised = 0
-first_of granted.Full = 0
-first_of (granted.Cancelled count) = 0
-first_of (granted.Seen moment place grants) = 0
-first_of (granted.Recent notes) = 0
+first_of _ = 0
 
 -- exclusive-or byte by byte; an absent one changes nothing
 abbrev pub xor_bytes : List ℕ → List ℕ → List ℕ
@@ -130,10 +125,7 @@ row_value m rules r (MacOf f) = if ends_message r f then mac_text m rules r f el
 -- the chaining value, in modes 1 and 2
 unfoldable pub chain_value : Module → RowRules → ReadText → ValueSource → List ℕ
 chain_value m rules r (MacOf f) = if ends_message r f then [] else chain_text m rules r f
-chain_value m rules r NoValue = []
-chain_value m rules r (PvvOf pair index) = []
-chain_value m rules r (OffsetOf pvk table validation check) = []
-chain_value m rules r (CvvOf pair pan expiry service) = []
+chain_value m rules r _ = []
 
 -- the random words of a message whose checks all pass
 unfoldable pub word_count : Module → RowRules → ReadText → Words → ℕ
@@ -181,42 +173,22 @@ counted ts = decimal (length ts) ++ spaced ts
 -- the live grants that were seen
 abbrev pub live_of : Granted → List Grant
 live_of (granted.Seen moment place grants) = grants.items
-live_of (granted.Use first) = []
-live_of granted.Refused = []
-live_of granted.Authorised = []
-live_of granted.Full = []
-live_of (granted.Cancelled count) = []
-live_of (granted.Recent notes) = []
+live_of _ = []
 
 -- the notes that were seen
 abbrev pub notes_of : Granted → List Note
 notes_of (granted.Recent notes) = notes.items
-notes_of (granted.Use first) = []
-notes_of granted.Refused = []
-notes_of granted.Authorised = []
-notes_of granted.Full = []
-notes_of (granted.Cancelled count) = []
-notes_of (granted.Seen moment place grants) = []
+notes_of _ = []
 
 -- the number of grants that were cancelled
 abbrev pub cancelled_of : Granted → ℕ
 cancelled_of (granted.Cancelled count) = count
-cancelled_of (granted.Use first) = 0
-cancelled_of granted.Refused = 0
-cancelled_of granted.Authorised = 0
-cancelled_of granted.Full = 0
-cancelled_of (granted.Seen moment place grants) = 0
-cancelled_of (granted.Recent notes) = 0
+cancelled_of _ = 0
 
 -- moment, random place and the number of live grants
 abbrev pub numbers_text : Granted → List ℕ
 numbers_text (granted.Seen moment place grants) = decimal moment ++ (codes " " ++ (decimal place ++ (codes " " ++ decimal (length grants.items))))
-numbers_text (granted.Use first) = []
-numbers_text granted.Refused = []
-numbers_text granted.Authorised = []
-numbers_text granted.Full = []
-numbers_text (granted.Cancelled count) = []
-numbers_text (granted.Recent notes) = []
+numbers_text _ = []
 
 -- the value of a reply term, for the answer at the entry
 unfoldable pub value_of : Module → RowRules → ReadText → Granted → Public → List ℕ

@@ -1,5 +1,5 @@
 -- What the text of a field is, by the test that its form passes.
-use Rattle.std.proofs.Common.{◌≡◌, ℕ, zero, suc, ◌+◌, ◌<◌, Bool, true, false, List, [], ◌∷◌, length, ◌++◌, refl, sym, ap, ◌∙◌, subst, arith, length-append}
+use Rattle.std.proofs.Common.{◌≡◌, ℕ, zero, suc, ◌+◌, ◌<◌, ◌≤◌, Bool, true, false, List, [], ◌∷◌, length, ◌++◌, refl, sym, ap, ◌∙◌, subst, arith, length-append, inl, inr}
 use Rattle.std.specs.Prelude.{◌==◌, nat_lt}
 use Rattle.std.proofs.Math.ListN.{get_or-append}
 use Rattle.std.proofs.Math.Seq.{get_or-append_seam}
@@ -11,7 +11,7 @@ use Rattle.hsm_rows.specs.declared.row.Form.TheVariants as form
 use Rattle.hsm_rows.specs.declared.row.Field.{Field}
 use Rattle.hsm_rows.specs.Forms.{text_at}
 use Rattle.hsm_rows.specs.Standing.{IsText, EachText, AreTexts, AreDigits, AreHexDigits, IsLength, IsValidation, IsFormat, IsAccount, IsCount}
-use Rattle.hsm_commands.specs.Fit.{form_at, is_digits, is_hex16, is_length, is_clear_pin, is_pair, is_validation, is_format, is_account, is_count}
+use Rattle.hsm_commands.specs.Fit.{form_at, is_digits, is_hex16, is_length, is_clear_pin, is_pair, is_validation, is_brief, is_account, is_count}
 
 -- what a form that passes the test says of its text
 abbrev pub Means : (Form → Bool) → (List ℕ → Type 0) → Type 0
@@ -77,9 +77,24 @@ pub validation_means : Means is_validation IsValidation
 validation_means form.Validation e t h x = x
 validation_means _ e t h x = let z : ⊥ = cc in absurd z
 
-pub format_means : Means is_format IsFormat
-format_means form.Format e t h x = x
-format_means _ e t h x = let z : ⊥ = cc in absurd z
+abbrev pub IsBrief : List ℕ → Type 0
+IsBrief t = length t ≤ 600
+
+format_brief : (t : List ℕ) → IsFormat t → IsBrief t
+format_brief t (inl e) = omega (arith, ap length e)
+format_brief t (inr (inl e)) = omega (arith, ap length e)
+format_brief t (inr (inr (inl e))) = omega (arith, ap length e)
+format_brief t (inr (inr (inr e))) = omega (arith, ap length e)
+
+pub brief_means : Means is_brief IsBrief
+brief_means form.Digits1 e t h x = omega (arith, x.0)
+brief_means form.Digits3 e t h x = omega (arith, x.0)
+brief_means form.Digits4 e t h x = omega (arith, x.0)
+brief_means form.Digits12 e t h x = omega (arith, x.0)
+brief_means form.Digits16 e t h x = omega (arith, x.0)
+brief_means form.Hex16 e t h x = omega (arith, x.0)
+brief_means form.Format e t h x = format_brief t x
+brief_means _ e t h x = let z : ⊥ = cc in absurd z
 
 pub account_means : Means is_account IsAccount
 account_means form.Account e t h x = x

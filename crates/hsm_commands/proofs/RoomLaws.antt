@@ -9,12 +9,12 @@ use Rattle.hsm_rows.specs.declared.row.Public.TheVariants as public
 use Rattle.hsm_rows.specs.Forms.{text_at}
 use Rattle.hsm_rows.specs.Table.{RowShape, Term, plain_text, term}
 use Rattle.hsm_rows.specs.Reading.{ReadText, Reads, at_end, one_more, RowReads, is_console}
-use Rattle.hsm_rows.specs.Standing.{AreTexts, IsFormat}
+use Rattle.hsm_rows.specs.Standing.{AreTexts}
 use Rattle.hsm_answers.specs.Keys.{field_text}
 use Rattle.hsm_commands.specs.Demands.{term_room, terms_room}
 use Rattle.hsm_commands.specs.Plans.{FitsText, echoes}
-use Rattle.hsm_commands.specs.Fit.{is_format, is_count, is_short, are_short, echoes_second, room_fits}
-use Rattle.hsm_commands.proofs.FormLaws.{text_is, format_means, count_means}
+use Rattle.hsm_commands.specs.Fit.{is_brief, is_count, is_short, are_short, echoes_second, room_fits}
+use Rattle.hsm_commands.proofs.FormLaws.{text_is, IsBrief, brief_means, count_means}
 
 -- the length of all texts
 whole : List (List ℕ) → ℕ
@@ -47,15 +47,9 @@ within row text r h = omega (arith, two_texts r.texts, reads_within (is_console 
 at_most : (a b : ℕ) → nat_le a b ≡ true → a ≤ b
 at_most a b h = grind (arith, nat_tests)
 
-format_short : (t : List ℕ) → IsFormat t → length t ≤ 600
-format_short t (inl e) = omega (arith, ap length e)
-format_short t (inr (inl e)) = omega (arith, ap length e)
-format_short t (inr (inr (inl e))) = omega (arith, ap length e)
-format_short t (inr (inr (inr e))) = omega (arith, ap length e)
-
 module _ (fs : List Field) (r : ReadText) (texts : AreTexts fs r.texts) where
   public_room : (t : Public) → is_short fs (term t) ≡ true → term_room r (term t) ≤ 600
-  public_room (public.Given k) h = format_short (field_text r k) (text_is is_format IsFormat format_means fs r.texts k texts h)
+  public_room (public.Given k) h = text_is is_brief IsBrief brief_means fs r.texts k texts h
   public_room _ h = omega arith
 
   room_of : (t : Term) → is_short fs t ≡ true → term_room r t ≤ 600

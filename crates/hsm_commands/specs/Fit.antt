@@ -58,10 +58,16 @@ abbrev pub is_validation : Form → Bool
 is_validation form.Validation = true
 is_validation _ = false
 
--- the format of a PIN block
-abbrev pub is_format : Form → Bool
-is_format form.Format = true
-is_format _ = false
+-- a short text of fixed size: digits, a block or a format
+abbrev pub is_brief : Form → Bool
+is_brief form.Digits1 = true
+is_brief form.Digits3 = true
+is_brief form.Digits4 = true
+is_brief form.Digits12 = true
+is_brief form.Digits16 = true
+is_brief form.Hex16 = true
+is_brief form.Format = true
+is_brief _ = false
 
 -- an account number
 abbrev pub is_account : Form → Bool
@@ -290,10 +296,10 @@ module _ (fs : List Field) (rules : RowRules) where
   meets_each [] = true
   meets_each (ds ∷ more) = meets_all ds && meets_each more
 
--- the reply field is short: a given text is a format's
+-- the reply field is short: a given text is of fixed size
 abbrev pub is_short : List Field → Term → Bool
 is_short fs (plain_text t) = nat_le (length t) 600
-is_short fs (term (public.Given k)) = form_at is_format fs k
+is_short fs (term (public.Given k)) = form_at is_brief fs k
 is_short fs (term _) = true
 
 abbrev pub are_short : List Field → List Term → Bool

@@ -1,5 +1,5 @@
 // Answers of ZW under the test set, computed by model/hsm_values.py over OpenSSL: the PVV of index 1 for the PIN 1234 and the
-// account 123456789012, the PIN's length, and the check value of the pair.
+// account 123456789012, the PIN's length, the check value of the pair, and the account.
 use crate::{finish, prepare};
 use hsm_auth::Ledger;
 use hsm_config::Config;
@@ -47,7 +47,7 @@ fn the_row_is_answered(rt: HostRuntime) -> Result<(), Fail> {
     answers(
         alloc,
         b"U32098F004A5488DBFBECB411DC94FF89AC9E30EA4EE088201234567890121",
-        b"ZX0025040408D7B4",
+        b"ZX0025040408D7B4123456789012",
     )?;
     answers(
         alloc,

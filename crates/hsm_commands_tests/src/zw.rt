@@ -1,4 +1,4 @@
-//! ZW makes a PVV, as DG does, and answers also the PIN's length and the check value of the PVK pair.
+//! ZW makes a PVV, as DG does, and answers also the PIN's length, the check value of the PVK pair, and the account.
 ghost use Rattle.std.specs.Prelude.{◌≡◌, ◌≤◌, ◌++◌, length, true};
 ghost use Rattle.hsm_auth.specs.History.{CanAsk, Fits};
 ghost use Rattle.hsm_rows.specs.Table.{shape_of};
@@ -40,6 +40,7 @@ static ZW: Row = Row {
         Public::Value,
         Public::PinLength,
         Public::CheckValue(Secret::Opened(dg::PVK_PAIR)),
+        Public::Given(dg::ACCOUNT),
     ],
     rules: RuleSet::Dg,
 };

@@ -6,7 +6,7 @@ use Rattle.hsm_rows.specs.Explain.{explain_text}
 use Rattle.hsm_rows.specs.Forms.{hex_value, wrapper_size, account_size, filled_size, validation_size, token_size, types, pair_codes, lengths, size}
 use Rattle.hsm_rows.specs.Reading.{is_trailer, spot_of, read_on}
 use Rattle.hsm_rows.specs.Rules.{rules_A0, rules_A6, rules_A8, rules_BU, rules_CA, rules_CC, rules_DE, rules_DG, rules_DA, rules_EA, rules_DC, rules_EC, rules_BA, rules_NG, rules_JA, rules_CW, rules_CY, rules_M6, rules_M8, rules_GC, rules_FK, rules_RA, rules_A, rules_C, rules_LOG}
-use Rattle.hsm_rows.specs.Table.{row_A0, row_A6, row_A8, row_BU, row_CA, row_CC, row_DE, row_DG, row_DA, row_EA, row_DC, row_EC, row_BA, row_NG, row_JA, row_CW, row_CY, row_M6, row_M8, row_B2, row_NC, row_NO, row_RA, row_A, row_C, row_VA, row_Q, row_LOG, row_GC, row_FK, host_rows, console_rows, all_rows, rules_of}
+use Rattle.hsm_rows.specs.Table.{row_A0, row_A6, row_A8, row_BU, row_CA, row_CC, row_DE, row_DG, row_DA, row_EA, row_DC, row_EC, row_BA, row_NG, row_JA, row_CW, row_CY, row_M6, row_M8, row_B2, row_NC, row_NO, row_RA, row_A, row_C, row_VA, row_Q, row_LOG, row_GC, row_FK, host_rows, console_rows, all_rows}
 use Rattle.hsm_answers.specs.Answers.{answer}
 use Rattle.hsm_answers.specs.Asks.{asked_words, words_hold, row_ask, ask_read, ask_of}
 use Rattle.hsm_answers.specs.Checks.{permit_fault, parts_fault, check_before, needs_of, data_fault, checks_fault, compared_fault, check_after, check_read}
