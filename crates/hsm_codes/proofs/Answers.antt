@@ -15,10 +15,12 @@ use Rattle.hsm_auth.specs.History.{Fits, live, other_count, outcome}
 use Rattle.hsm_rows.specs.declared.row.Code.{Code}
 use Rattle.hsm_rows.specs.declared.row.Field.{Field}
 use Rattle.hsm_rows.specs.declared.settings.Module.{Module}
-use Rattle.hsm_rows.specs.Table.{RowShape}
+use Rattle.hsm_rows.specs.Table.{RowShape, rules_of}
 use Rattle.hsm_rows.specs.Texts.{two_digits}
 use Rattle.hsm_rows.specs.Reading.{ReadText, is_console, read_on, reading, is_trailer, spot_of}
-use Rattle.hsm_rows.specs.Rules.{RowRules, AskKind, use_ask, look_ask, recent_ask, cancel_all_ask, authorise_ask, cancel_ask, rules_of}
+use Rattle.hsm_rows.specs.Rules.{RowRules}
+use Rattle.hsm_rows.specs.declared.rules.AskKind.{AskKind}
+use Rattle.hsm_rows.specs.declared.rules.AskKind.TheVariants.{UseAsk, LookAsk, RecentAsk, CancelAllAsk, AuthoriseAsk, CancelAsk}
 use Rattle.hsm_answers.specs.Answers.{answer, host_answer, host_body}
 use Rattle.hsm_answers.specs.Asks.{as_needs, ask_of, ask_read, asked_words, words_hold, authorise, cancel, empty_ask, row_ask}
 use Rattle.hsm_answers.specs.Checks.{check_before, check_read, is_refused, needs_of}
@@ -80,12 +82,12 @@ no_needs_of m rules r acts needs = rw (acts, needs) refl
 kind_open : (m : Module) (rules : RowRules) (r : ReadText) (kind : AskKind) (h : List Entry) (moment : ℕ) → rules.acts ≡ [] → rules.needs ≡ []
     → is_refused (outcome h moment (row_ask m rules r kind)) ≡ false
 unfolding row_ask
-kind_open m rules r use_ask h moment acts needs = use_open h moment (needs_of m rules r) (asked_words m rules r) (no_needs_of m rules r acts needs)
-kind_open m rules r look_ask h moment acts needs = refl
-kind_open m rules r recent_ask h moment acts needs = refl
-kind_open m rules r cancel_all_ask h moment acts needs = refl
-kind_open m rules r authorise_ask h moment acts needs = authorise_open h moment (words_hold m r) (activity_of (field_text r 0)) (decimal_from 0 (field_text r 1))
-kind_open m rules r cancel_ask h moment acts needs = cancel_open h moment (bytes_eq (field_text r 0) (codes "*")) (activity_of (field_text r 0))
+kind_open m rules r UseAsk h moment acts needs = use_open h moment (needs_of m rules r) (asked_words m rules r) (no_needs_of m rules r acts needs)
+kind_open m rules r LookAsk h moment acts needs = refl
+kind_open m rules r RecentAsk h moment acts needs = refl
+kind_open m rules r CancelAllAsk h moment acts needs = refl
+kind_open m rules r AuthoriseAsk h moment acts needs = authorise_open h moment (words_hold m r) (activity_of (field_text r 0)) (decimal_from 0 (field_text r 1))
+kind_open m rules r CancelAsk h moment acts needs = cancel_open h moment (bytes_eq (field_text r 0) (codes "*")) (activity_of (field_text r 0))
 
 -- where no check before the entry fails, a row that needs nothing is not refused at an entry that fits
 may_refuse : (m : Module) (rules : RowRules) (r : ReadText) (g : Granted) (before : Option ℕ) → before ≡ None

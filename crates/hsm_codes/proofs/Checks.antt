@@ -11,7 +11,17 @@ use Rattle.hsm_pinblock.specs.declared.BlockFault.TheVariants.{Control, Length, 
 use Rattle.hsm_rows.specs.declared.settings.Module.{Module}
 use Rattle.hsm_rows.specs.declared.row.Secret.{Secret}
 use Rattle.hsm_rows.specs.Reading.{ReadText, is_end}
-use Rattle.hsm_rows.specs.Rules.{RowRules, ActUse, FixedNeed, MacFields, KeyCheck, Under, given_key, target, PinSource, no_pin, block_pin, lmk_pin, clear_pin, drawn_pin, DataCheck, table_check, pin_check, longer_than, shorter_than, mac_check}
+use Rattle.hsm_rows.specs.Rules.{RowRules}
+use Rattle.hsm_rows.specs.declared.rules.ActUse.{ActUse}
+use Rattle.hsm_rows.specs.declared.rules.FixedNeed.{FixedNeed}
+use Rattle.hsm_rows.specs.declared.rules.MacFields.{MacFields}
+use Rattle.hsm_rows.specs.declared.rules.Under.{Under}
+use Rattle.hsm_rows.specs.declared.rules.KeyCheck.{KeyCheck}
+use Rattle.hsm_rows.specs.declared.rules.KeyCheck.TheVariants.{GivenKey, Target}
+use Rattle.hsm_rows.specs.declared.rules.PinSource.{PinSource}
+use Rattle.hsm_rows.specs.declared.rules.PinSource.TheVariants.{NoPin, BlockPin, LmkPin, ClearPin, DrawnPin}
+use Rattle.hsm_rows.specs.declared.rules.DataCheck.{DataCheck}
+use Rattle.hsm_rows.specs.declared.rules.DataCheck.TheVariants.{TableCheck, PinCheck, LongerThan, ShorterThan, MacCheck}
 use Rattle.hsm_verify.specs.Values.{table_ok}
 use Rattle.hsm_types.specs.Table.{allows_length}
 use Rattle.hsm_types.specs.Schemes.{scheme_parts}
@@ -23,7 +33,8 @@ use Rattle.hsm_answers.specs.Pins.{block_fault_code, clear_digits, digits_at, fo
 use Rattle.hsm_answers.specs.Macs.{ends_message, is_only, mac_data, mac_fault, mac_padding}
 use Rattle.hsm_mac.specs.Macs.{fills_blocks, is_bare, is_length}
 use Rattle.hsm_answers.specs.Values.{row_value, secret_key}
-use Rattle.hsm_answers.specs.Checks.{check_after, check_before, check_read, checks_fault, compared_fault, data_fault, entry_fault, is_refused, is_used, is_forbidden, act_permit, parts_fault, permit_fault, repeats_part}
+use Rattle.hsm_answers.specs.Checks.{check_after, check_before, check_read, checks_fault, compared_fault, data_fault, entry_fault, is_refused, is_used, is_forbidden, act_permit, parts_fault, permit_fault}
+use Rattle.hsm_tdes.specs.Tdes.{repeats_part}
 use Rattle.hsm_codes.specs.Codes.{check_codes, data_codes, is_among, key_codes, pin_codes, where_any, where_some}
 use Rattle.hsm_codes.proofs.Among.{behind, first, itself, left, opt_among, where_fails, where_holds}
 
@@ -62,8 +73,8 @@ target_codes false false = refl
 
 key_has : (m : Module) (rules : RowRules) (r : ReadText) (k : KeyCheck) → opt_among (key_fault m rules r k) (0 ∷ 15 ∷ key_codes k) ≡ true
 unfolding key_fault
-key_has m rules r (given_key k under ty wraps rule parity) = given_codes (wrapping_key m rules r under (type_of r ty)) under (asked r ty wraps rule parity) (field_text r k)
-key_has m rules r (target ty k second) = target_codes (lengths_differ r k second) (not (allows_length (type_of r ty) (scheme_parts (scheme_at r k))))
+key_has m rules r (GivenKey k under ty wraps rule parity) = given_codes (wrapping_key m rules r under (type_of r ty)) under (asked r ty wraps rule parity) (field_text r k)
+key_has m rules r (Target ty k second) = target_codes (lengths_differ r k second) (not (allows_length (type_of r ty) (scheme_parts (scheme_at r k))))
 
 keys_have : (m : Module) (rules : RowRules) (r : ReadText) (keys : List KeyCheck) → opt_among (first_code (map (key_fault m rules r) keys)) (0 ∷ 15 ∷ flat_map key_codes keys) ≡ true
 keys_have m rules r [] = refl
@@ -89,11 +100,11 @@ block_has (Some Body) = refl
 
 pin_has : (m : Module) (rules : RowRules) (r : ReadText) (pin : PinSource) → opt_among (pin_fault m rules r pin) (0 ∷ 15 ∷ pin_codes pin) ≡ true
 unfolding pin_fault
-pin_has m rules r no_pin = refl
-pin_has m rules r (block_pin block key format account) = block_has (blockfault (format_at r format) (sent_block m rules r block key) (digits_at r account))
-pin_has m rules r (lmk_pin text account) = where_holds (is_some (blockfault F01 (lmk_block m r text) (digits_at r account))) 14
-pin_has m rules r (clear_pin text account) = where_holds (nat_lt (length (clear_digits r text)) 4) 24
-pin_has m rules r (drawn_pin len account) = refl
+pin_has m rules r NoPin = refl
+pin_has m rules r (BlockPin block key format account) = block_has (blockfault (format_at r format) (sent_block m rules r block key) (digits_at r account))
+pin_has m rules r (LmkPin text account) = where_holds (is_some (blockfault F01 (lmk_block m r text) (digits_at r account))) 14
+pin_has m rules r (ClearPin text account) = where_holds (nat_lt (length (clear_digits r text)) 4) 24
+pin_has m rules r (DrawnPin len account) = refl
 
 mac_has : (r : ReadText) (f : MacFields) → opt_among (mac_fault r f) (0 ∷ 15 ∷ 80 ∷ []) ≡ true
 unfolding mac_fault
@@ -108,11 +119,11 @@ mac_has r f =
 
 check_has : (m : Module) (rules : RowRules) (r : ReadText) (check : DataCheck) → opt_among (data_fault m rules r check) (0 ∷ 15 ∷ data_codes rules.pin check) ≡ true
 unfolding data_fault
-check_has m rules r (table_check k) = where_fails (table_ok (digits_at r k)) 25
-check_has m rules r pin_check = pin_has m rules r rules.pin
-check_has m rules r (longer_than k) = where_holds (nat_lt (number_at r k) (length (given_pin m rules r))) 24
-check_has m rules r (shorter_than k) = where_holds (nat_lt (length (given_pin m rules r)) (number_at r k)) 24
-check_has m rules r (mac_check f) = mac_has r f
+check_has m rules r (TableCheck k) = where_fails (table_ok (digits_at r k)) 25
+check_has m rules r PinCheck = pin_has m rules r rules.pin
+check_has m rules r (LongerThan k) = where_holds (nat_lt (number_at r k) (length (given_pin m rules r))) 24
+check_has m rules r (ShorterThan k) = where_holds (nat_lt (length (given_pin m rules r)) (number_at r k)) 24
+check_has m rules r (MacCheck f) = mac_has r f
 
 checks_have : (m : Module) (rules : RowRules) (r : ReadText) (checks : List DataCheck) → opt_among (first_code (map (data_fault m rules r) checks)) (0 ∷ 15 ∷ flat_map (data_codes rules.pin) checks) ≡ true
 checks_have m rules r [] = refl

@@ -3,10 +3,16 @@ use Rattle.std.specs.Prelude.{◌≡◌, ℕ, Bool, true, false, ◌==◌, ◌||
 use Rattle.hsm_auth.specs.declared.entry.Granted.{Granted}
 use Rattle.hsm_rows.specs.declared.settings.Module.{Module}
 use Rattle.hsm_rows.specs.declared.row.Field.{Field}
-use Rattle.hsm_rows.specs.Table.{RowShape}
+use Rattle.hsm_rows.specs.Table.{RowShape, rules_of}
 use Rattle.hsm_rows.specs.Texts.{two_digits}
 use Rattle.hsm_rows.specs.Reading.{is_console}
-use Rattle.hsm_rows.specs.Rules.{RowRules, KeyCheck, given_key, target, PinSource, no_pin, block_pin, lmk_pin, clear_pin, drawn_pin, DataCheck, table_check, pin_check, longer_than, shorter_than, mac_check, rules_of}
+use Rattle.hsm_rows.specs.Rules.{RowRules}
+use Rattle.hsm_rows.specs.declared.rules.KeyCheck.{KeyCheck}
+use Rattle.hsm_rows.specs.declared.rules.KeyCheck.TheVariants.{GivenKey, Target}
+use Rattle.hsm_rows.specs.declared.rules.PinSource.{PinSource}
+use Rattle.hsm_rows.specs.declared.rules.PinSource.TheVariants.{NoPin, BlockPin, LmkPin, ClearPin, DrawnPin}
+use Rattle.hsm_rows.specs.declared.rules.DataCheck.{DataCheck}
+use Rattle.hsm_rows.specs.declared.rules.DataCheck.TheVariants.{TableCheck, PinCheck, LongerThan, ShorterThan, MacCheck}
 use Rattle.hsm_answers.specs.Messages.{host, header_of, message_answer}
 
 -- whether a code is among these
@@ -16,24 +22,24 @@ is_among code (other ∷ codes) = code == other || is_among code codes
 
 -- of a key: 26 and 27, and of a given one its parity code
 abbrev pub key_codes : KeyCheck → List ℕ
-key_codes (given_key k under ty wraps rule parity) = 26 ∷ 27 ∷ parity ∷ []
-key_codes (target ty k second) = 26 ∷ 27 ∷ []
+key_codes (GivenKey k under ty wraps rule parity) = 26 ∷ 27 ∷ parity.0 ∷ []
+key_codes (Target ty k second) = 26 ∷ 27 ∷ []
 
 -- of the row's PIN: a block 20 and 24, a text under the LMK 14, clear digits 24
 abbrev pub pin_codes : PinSource → List ℕ
-pin_codes no_pin = []
-pin_codes (block_pin block key format account) = 20 ∷ 24 ∷ []
-pin_codes (lmk_pin text account) = 14 ∷ []
-pin_codes (clear_pin text account) = 24 ∷ []
-pin_codes (drawn_pin len account) = []
+pin_codes NoPin = []
+pin_codes (BlockPin block key format account) = 20 ∷ 24 ∷ []
+pin_codes (LmkPin text account) = 14 ∷ []
+pin_codes (ClearPin text account) = 24 ∷ []
+pin_codes (DrawnPin len account) = []
 
 -- of a data check
 abbrev pub data_codes : PinSource → DataCheck → List ℕ
-data_codes pin (table_check k) = 25 ∷ []
-data_codes pin pin_check = pin_codes pin
-data_codes pin (longer_than k) = 24 ∷ []
-data_codes pin (shorter_than k) = 24 ∷ []
-data_codes pin (mac_check f) = 80 ∷ []
+data_codes pin (TableCheck k) = 25 ∷ []
+data_codes pin PinCheck = pin_codes pin
+data_codes pin (LongerThan k) = 24 ∷ []
+data_codes pin (ShorterThan k) = 24 ∷ []
+data_codes pin (MacCheck f) = 80 ∷ []
 
 -- the code where there is something, and none else
 abbrev pub where_some : {A : Type 0} → Option A → ℕ → List ℕ
