@@ -116,6 +116,22 @@ fn doors_of(alloc: Global, ports: &[Port<'_>]) -> Result<Vec<(u16, MemDoor)>, Al
     Ok(doors)
 }
 
+// A file of these bytes. What can fail is bound first.
+fn named(
+    alloc: Global,
+    name: &str,
+    bytes: Vec<u8>,
+    bad_reads: &[u32],
+) -> Result<MemNamed, AllocError> {
+    let name = String::from_str(alloc, name)?;
+    let bad_reads = bad_reads.to_vec(alloc)?;
+    Ok(MemNamed {
+        name,
+        bytes,
+        bad_reads,
+    })
+}
+
 fn files_of(
     alloc: Global,
     setup: &Setup<'_>,
@@ -123,16 +139,8 @@ fn files_of(
     script: Vec<u8>,
 ) -> Result<Vec<MemNamed>, AllocError> {
     let mut files = Vec::new(alloc);
-    files.push(MemNamed {
-        name: String::from_str(alloc, "c")?,
-        bytes: config,
-        bad_reads: setup.config_reads.to_vec(alloc)?,
-    })?;
-    files.push(MemNamed {
-        name: String::from_str(alloc, "f")?,
-        bytes: script,
-        bad_reads: setup.script_reads.to_vec(alloc)?,
-    })?;
+    files.push(named(alloc, "c", config, setup.config_reads)?)?;
+    files.push(named(alloc, "f", script, setup.script_reads)?)?;
     Ok(files)
 }
 
