@@ -1,5 +1,5 @@
 -- What each row of the command table asks of its fields beyond their forms, and what its reply is made of. A number names a field of the row, counted from 0, or where it says so a two-digit code.
-use Rattle.std.specs.Prelude.{ℕ, Bool, true, false, List, [], ◌∷◌, Option, Some, None}
+use Rattle.std.specs.Prelude.{ℕ, true, false, List, [], ◌∷◌, Option, Some, None}
 use Rattle.hsm_types.specs.declared.types.KeyType.{KeyType}
 use Rattle.hsm_types.specs.declared.types.KeyType.TheVariants.{Zmk, Zpk, Tpk, Cvk}
 use Rattle.hsm_types.specs.declared.types.Act.{Act}
