@@ -1,5 +1,6 @@
 -- The error codes that a row names.
-use Rattle.std.specs.Prelude.{ℕ, Bool, false, ◌==◌, ◌||◌, if◌then◌else◌, List, [], ◌∷◌, ◌++◌, map, flat_map, filter, Option, Some, None, ◌⊎◌}
+use Rattle.std.specs.List.{range_with_len}
+use Rattle.std.specs.Prelude.{ℕ, ◌-◌, Bool, false, ◌==◌, ◌||◌, if◌then◌else◌, List, [], ◌∷◌, ◌++◌, map, flat_map, filter, Option, Some, None, ◌⊎◌}
 use Rattle.hsm_rows.specs.declared.row.Field.{Field}
 use Rattle.hsm_rows.specs.Table.{RowShape, IsHostRow, IsConsoleRow, rules_of}
 use Rattle.hsm_rows.specs.Reading.{is_console}
@@ -64,13 +65,13 @@ named_codes row = 0 ∷ 15 ∷ (map (λ (f : Field). f.code.0) row.fields ++ che
 unfoldable pub names : RowShape → ℕ → Bool
 names row code = is_among code (named_codes row)
 
--- the codes of all host rows, in rising order
-abbrev pub all_codes : List ℕ
-all_codes = 0 ∷ 1 ∷ 4 ∷ 5 ∷ 10 ∷ 11 ∷ 14 ∷ 15 ∷ 17 ∷ 20 ∷ 23 ∷ 24 ∷ 25 ∷ 26 ∷ 27 ∷ 29 ∷ 75 ∷ 80 ∷ []
+-- the two-digit codes from this one on, in rising order
+unfoldable pub codes_from : ℕ → List ℕ
+codes_from code = range_with_len code (100 - code)
 
 -- The codes that the answers of a host row bear, each once and in rising order. A console row has none.
 unfoldable pub codes_of : RowShape → List ℕ
-codes_of row = if is_console row then [] else filter (names row) all_codes
+codes_of row = if is_console row then [] else filter (names row) (codes_from 0)
 
 -- the row is one of the table's
 abbrev pub IsRow : RowShape → Type 0

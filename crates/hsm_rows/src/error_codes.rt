@@ -4,23 +4,12 @@ ghost use Rattle.std.specs.List.{list_any};
 ghost use Rattle.hsm_rows.specs.declared.row.Code.{Code};
 ghost use Rattle.hsm_rows.specs.Table.{shape_of};
 ghost use Rattle.hsm_rows.specs.Rules.{rules_shape};
-ghost use Rattle.hsm_rows.specs.Codes.{IsRow, is_among, key_codes, pin_codes, data_codes, check_codes, names, all_codes, codes_of, where_any, where_some};
+ghost use Rattle.hsm_rows.specs.Codes.{IsRow, is_among, key_codes, pin_codes, data_codes, check_codes, names, codes_of, where_any, where_some};
 
 use super::read::is_console;
 use super::row::{Code, Field, Row, Secret};
 use super::rules::{ActUse, DataCheck, FixedNeed, KeyCheck, PinSource, Rules};
 use arrayvec::ArrayVec;
-
-static ALL: [u8; 18] = [
-    0, 1, 4, 5, 10, 11, 14, 15, 17, 20, 23, 24, 25, 26, 27, 29, 75, 80,
-];
-
-// The codes of all host rows, in rising order.
-fn all_codes() -> &'static [u8]
-    ensures { result.now ≡ all_codes }
-{
-    &ALL
-}
 
 // Whether a field has the code.
 fn has_field(fields: &[Field], code: u8) -> bool
@@ -119,7 +108,7 @@ fn is_named(row: &Row, code: u8) -> bool
 /// The error codes of a row, each once and in rising order. A host row has 00; 15; the codes of its fields; where it has
 /// keys, 26, 27 and their codes of even parity; 29 where it uses a permit; 75 where the parts of a key must differ; 17
 /// where it can need an activity; the codes of its data checks, those of a block being 20 and 24; and 01 where it compares a
-/// value. A console row has none.
+/// value. A console row has none. The row must be one of the table.
 pub fn codes(row: &Row) -> ArrayVec<Code, 16>
     requires { IsRow (shape_of row.now) }
     ensures { map (λ (c : Code). c.0) result.items ≡ codes_of (shape_of row.now) }
@@ -128,9 +117,9 @@ pub fn codes(row: &Row) -> ArrayVec<Code, 16>
     if is_console(row) {
         return codes;
     }
-    for code in all_codes() {
-        if is_named(row, *code) {
-            codes.push(Code(*code));
+    for code in 0..100 {
+        if is_named(row, code) {
+            codes.push(Code(code));
         }
     }
     codes
