@@ -4,7 +4,7 @@ use Rattle.std.specs.Prelude.{◌⊎◌, if◌then◌else◌}
 use Rattle.std.specs.List.{list_all}
 use Rattle.std.proofs.lemmas.Bool.Decides.{nat_tests}
 use Rattle.hsm_answers.specs.Keys.{first_code}
-use Rattle.hsm_codes.specs.Codes.{is_among}
+use Rattle.hsm_rows.specs.Codes.{is_among}
 
 -- the code is among these, if there is one
 abbrev pub opt_among : Option ℕ → List ℕ → Bool

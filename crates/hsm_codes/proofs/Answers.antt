@@ -26,7 +26,8 @@ use Rattle.hsm_answers.specs.Asks.{as_needs, ask_of, ask_read, asked_words, word
 use Rattle.hsm_answers.specs.Checks.{check_before, check_read, is_refused, needs_of}
 use Rattle.hsm_answers.specs.Values.{values}
 use Rattle.hsm_answers.specs.Messages.{host, answer_by, ask_by, header_of, command_of, enabled_row, message_answer, message_ask, text_after}
-use Rattle.hsm_codes.specs.Codes.{BearsCode, check_codes, codes_of, is_among, named_codes}
+use Rattle.hsm_rows.specs.Codes.{check_codes, codes_of, is_among, named_codes}
+use Rattle.hsm_codes.specs.Codes.{BearsCode}
 use Rattle.hsm_codes.proofs.Among.{behind, each, left, opt_among, third}
 use Rattle.hsm_codes.proofs.Checks.{MayRefuse, read_has}
 use Rattle.hsm_codes.proofs.Rows.{enabled_coded}

@@ -35,7 +35,7 @@ use Rattle.hsm_mac.specs.Macs.{fills_blocks, is_bare, is_length}
 use Rattle.hsm_answers.specs.Values.{row_value, secret_key}
 use Rattle.hsm_answers.specs.Checks.{check_after, check_before, check_read, checks_fault, compared_fault, data_fault, entry_fault, is_refused, is_used, is_forbidden, act_permit, parts_fault, permit_fault}
 use Rattle.hsm_tdes.specs.Tdes.{repeats_part}
-use Rattle.hsm_codes.specs.Codes.{check_codes, data_codes, is_among, key_codes, pin_codes, where_any, where_some}
+use Rattle.hsm_rows.specs.Codes.{check_codes, data_codes, is_among, key_codes, pin_codes, where_any, where_some}
 use Rattle.hsm_codes.proofs.Among.{behind, first, itself, left, opt_among, where_fails, where_holds}
 
 parity_last : (code : ℕ) → is_among code (0 ∷ 15 ∷ 26 ∷ 27 ∷ code ∷ []) ≡ true

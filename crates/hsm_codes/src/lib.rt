@@ -7,7 +7,8 @@ ghost use Rattle.hsm_auth.specs.History.{Fits};
 ghost use Rattle.hsm_rows.specs.declared.settings.Module.{Module};
 ghost use Rattle.hsm_rows.specs.Table.{RowShape, row_B2, row_GC, row_M8, row_NG};
 ghost use Rattle.hsm_answers.specs.Messages.{command_of, enabled_row, host, message_ask};
-ghost use Rattle.hsm_codes.specs.Codes.{BearsCode, codes_of};
+ghost use Rattle.hsm_rows.specs.Codes.{codes_of};
+ghost use Rattle.hsm_codes.specs.Codes.{BearsCode};
 
 /// The answer to a host's message whose command is in a row that the module doesn't disable bears one of the row's codes, at
 /// each entry whose answer fits what the message asks.

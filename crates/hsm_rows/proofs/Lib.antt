@@ -10,3 +10,4 @@ pub mod KeyForms
 pub mod TextsBack
 pub mod StandingTexts
 pub mod ConsoleStands
+pub mod CodeLemmas

@@ -15,11 +15,11 @@ use Rattle.hsm_rows.specs.Clear.{is_clear}
 use Rattle.hsm_rows.specs.Explain.{explain_text, line, field_line, clear_lines}
 use Rattle.hsm_rows.proofs.Within.{and_left, and_right}
 
-le_holds : (a b : ℕ) → nat_le a b ≡ true → a ≤ b
+pub le_holds : (a b : ℕ) → nat_le a b ≡ true → a ≤ b
 le_holds a b h = grind (arith, nat_tests)
 
 -- what holds of each row holds of one of them
-passes : (test : RowShape → Bool) (rows : List RowShape) (row : RowShape) (k : ℕ) → list_all test rows ≡ true → k < length rows → slice_index_or rows k row ≡ row → test row ≡ true
+pub passes : (test : RowShape → Bool) (rows : List RowShape) (row : RowShape) (k : ℕ) → list_all test rows ≡ true → k < length rows → slice_index_or rows k row ≡ row → test row ≡ true
 passes test [] row k h l e = absurd (omega arith)
 passes test (x ∷ xs) row zero h l e =
     let P : RowShape → Type 0 = λ y. test y ≡ true in

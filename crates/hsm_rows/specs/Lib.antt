@@ -8,4 +8,5 @@ pub mod ConsoleStanding
 pub mod Rules
 pub mod Bounds
 pub mod Clear
+pub mod Codes
 pub mod Explain

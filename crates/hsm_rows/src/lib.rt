@@ -1,6 +1,7 @@
 //! The command table: its rows, the forms of their fields, how a message is read by them, and the settings of the module.
 #![tactic(auto)]
 
+mod error_codes;
 pub mod fields;
 mod forms;
 mod laws;
@@ -13,6 +14,7 @@ mod settings;
 mod table;
 mod texts;
 
+pub use error_codes::codes;
 pub use laws::{
     clear_marks, console_texts_stand, few_fields_and_needs, forms_are, one_reading, sizes_fit,
     texts_stand,

@@ -5,7 +5,7 @@ ghost use Rattle.hsm_rows.specs.Texts.{two_digits};
 use super::rules::RuleSet;
 
 /// A two-digit code. 00 is no refusal.
-#[derive(Clone, Copy, Debug, PartialEq, Eq)]
+#[derive(Clone, Copy, Debug, Default, PartialEq, Eq)]
 pub struct Code(pub u8);
 
 impl Code {

@@ -1,5 +1,5 @@
 // What rows read and refuse, and how they are explained.
-use hsm_rows::{Code, console_row, explain, read_fields, row_of};
+use hsm_rows::{Code, codes, console_row, explain, read_fields, row_of};
 use hsm_text::Reply;
 use std::process::Abort;
 
@@ -156,5 +156,37 @@ fn explains_each_host_row(rt: HostRuntime) {
             }
             None => assert!(rt; false, "no row"),
         }
+    }
+}
+
+// The codes of some host rows, worked out by hand from the rule: 00; 15; those of the fields; 26, 27 and the parity codes
+// where there are keys; 29, 75 and 17; those of the data checks; 01.
+#[rattlefmt::skip]
+const NAMED: [(&[u8; 2], &[u8]); 6] = [
+    (b"A0", &[0, 4, 10, 15, 17, 26, 27, 29]),
+    (b"A6", &[0, 4, 10, 11, 15, 17, 26, 27, 29, 75]),
+    (b"DA", &[0, 1, 10, 11, 15, 20, 23, 24, 25, 26, 27]),
+    (b"NG", &[0, 14, 15, 17]),
+    (b"M8", &[0, 1, 4, 10, 15, 26, 27, 80]),
+    (b"B2", &[0, 15]),
+];
+
+#[test]
+fn names_codes_of_rows(rt: HostRuntime) {
+    for (code, named) in NAMED {
+        match row_of(code) {
+            Some(row) => {
+                let found = codes(row);
+                assert_eq!(rt; found.len(), named.len());
+                for (code, number) in found.iter().zip(named) {
+                    assert_eq!(rt; code.0, *number);
+                }
+            }
+            None => assert!(rt; false, "no row"),
+        }
+    }
+    match console_row(b"GC") {
+        Some(row) => assert!(rt; codes(row).is_empty()),
+        None => assert!(rt; false, "no row"),
     }
 }
