@@ -5,7 +5,7 @@ use Rattle.hsm_config.specs.declared.configuration.Config.{Config}
 use Rattle.hsm_config.specs.declared.configuration.ConfigFault.TheVariants.{NotToml, Rule}
 use Rattle.hsm_config.specs.declared.configuration.ConfigFault.TheVariants as fault
 use Rattle.hsm_program.specs.Files.{file_limit}
-use Rattle.hsm_program.specs.Settings.{Says}
+use Rattle.hsm_program.specs.Settings.{HoldsConfig}
 use Rattle.hsm_program.specs.declared.outcome.Outcome.{Outcome}
 use Rattle.hsm_program.specs.declared.outcome.Outcome.TheVariants.{Served, Usage, FileFault, SeedFault, ListenFault, OutFault, FileLong, ConfigRefused, ScriptRefused, Memory}
 
@@ -39,7 +39,7 @@ RefusesConfig bytes (ScriptRefused line) = ⊥
 
 -- the configuration that the bytes of a file say, or why there is none
 abbrev pub ReadsConfig : List ℕ → Result Config (ℕ × Outcome) → Type 0
-ReadsConfig bytes (Ok config) = Says bytes config
+ReadsConfig bytes (Ok config) = HoldsConfig bytes config
 ReadsConfig bytes (Err ended) = RefusesConfig bytes ended.1
 
 -- an answer that comes only after the configuration
