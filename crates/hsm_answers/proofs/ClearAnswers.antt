@@ -24,7 +24,9 @@ use Rattle.hsm_answers.specs.Keys.{first_code, type_of}
 use Rattle.hsm_answers.specs.Checks.{check_before, check_after, check_read, fixed_need, needs_of, is_refused}
 use Rattle.hsm_answers.specs.Asks.{asked_words, row_ask}
 use Rattle.hsm_answers.specs.Clear.{ShowsClear, IsGrantedAt, IsGivenBefore, IsMarkOf, only_need, clear_pins, components}
-use Rattle.hsm_answers.specs.Messages.{Side, host, console, command_of, enabled_row, rows_of, text_after, message_ask, ask_by}
+use Rattle.hsm_answers.specs.Messages.{command_of, enabled_row, rows_of, text_after, message_ask, ask_by}
+use Rattle.hsm_auth.specs.declared.activity.Place.{Place}
+use Rattle.hsm_auth.specs.declared.activity.Place.TheVariants.{Host, Console}
 use Rattle.hsm_answers.proofs.AnswerSteps.{passed_ask}
 
 -- a row that shows a clear key or PIN is NG or GC
@@ -47,9 +49,9 @@ unfolding console_rows row_A row_C row_VA row_Q row_LOG row_GC row_FK
 console_marks =
     (unmarked row_A refl, (unmarked row_C refl, (unmarked row_VA refl, (unmarked row_Q refl, (unmarked row_LOG refl, (λ marked. inr refl, (unmarked row_FK refl, tt)))))))
 
-side_marks : (side : Side) → AllByRecursion MarksOnly (rows_of side)
-side_marks host = host_marks
-side_marks console = console_marks
+side_marks : (side : Place) → AllByRecursion MarksOnly (rows_of side)
+side_marks Host = host_marks
+side_marks Console = console_marks
 
 found_here : (P : RowShape → Type 0) (x : RowShape) (rest : Option RowShape) (b : Bool) (row : RowShape) → P x → (rest ≡ Some row → P row) → cond b (Some x) rest ≡ Some row → P row
 found_here P x rest true row here later found = subst P (cc) here
@@ -66,11 +68,11 @@ by_disabled P code rows row true all found = absurd (cc)
 by_disabled P code rows row false all found = found_among P code rows row all found
 
 -- what holds of all rows of a side holds of each that is enabled
-pub enabled_among : (P : RowShape → Type 0) (m : Module) (side : Side) (code : List ℕ) (row : RowShape) → AllByRecursion P (rows_of side) → enabled_row m side code ≡ Some row → P row
+pub enabled_among : (P : RowShape → Type 0) (m : Module) (side : Place) (code : List ℕ) (row : RowShape) → AllByRecursion P (rows_of side) → enabled_row m side code ≡ Some row → P row
 unfolding enabled_row
 enabled_among P m side code row all found = by_disabled P code (rows_of side) row (list_any (bytes_eq code) m.disabled.items) all found
 
-pub is_marked : (m : Module) (side : Side) (code : List ℕ) (row : RowShape) → enabled_row m side code ≡ Some row → has_clear row ≡ true → IsMarked row
+pub is_marked : (m : Module) (side : Place) (code : List ℕ) (row : RowShape) → enabled_row m side code ≡ Some row → has_clear row ≡ true → IsMarked row
 is_marked m side code row found marked = (enabled_among MarksOnly m side code row (side_marks side) found) marked
 
 -- where no check fails, none before the entry does and the needs were covered
@@ -145,7 +147,7 @@ MetCovered = (h : List Entry) (moment : ℕ) (need : Activity) → is_met (Some 
 abbrev pub LiveContains : Type 0
 LiveContains = (h : List Entry) (moment : ℕ) (g : Grant) → IsLive h moment g → Contains (live h moment) g
 
-pub granted_at : MetCovered → LiveContains → (m : Module) (side : Side) (message : List ℕ) (h : List Entry) (i : ℕ) (e : Entry)
+pub granted_at : MetCovered → LiveContains → (m : Module) (side : Place) (message : List ℕ) (h : List Entry) (i : ℕ) (e : Entry)
     → e.ask ≡ message_ask m side message → e.granted ≡ outcome (take i h) e.moment e.ask
     → (s : ShowsClear m side message e.granted) → IsGrantedAt s.row s.read h i e
 unfolding check_read message_ask

@@ -21,7 +21,9 @@ use Rattle.hsm_answers.specs.Checks.{check_before}
 use Rattle.hsm_answers.specs.Asks.{ask_of, ask_read, row_ask, empty_ask, authorise, cancel, words_hold, are_digests}
 use Rattle.hsm_answers.specs.Answers.{is_authorise}
 use Rattle.hsm_answers.specs.Clear.{Authorises}
-use Rattle.hsm_answers.specs.Messages.{Side, host, console, command_of, enabled_row, rows_of, text_after, message_ask, ask_by}
+use Rattle.hsm_answers.specs.Messages.{command_of, enabled_row, rows_of, text_after, message_ask, ask_by}
+use Rattle.hsm_auth.specs.declared.activity.Place.{Place}
+use Rattle.hsm_auth.specs.declared.activity.Place.TheVariants.{Host, Console}
 use Rattle.hsm_answers.proofs.ClearAnswers.{enabled_among}
 
 -- words with these digests, in this order
@@ -46,27 +48,27 @@ have_digests (d ∷ e ∷ more) first second h = record {
 }
 
 -- of the console's rows only `A` authorises, and of the host's none does
-abbrev OnlyA : Side → RowShape → Type 0
-OnlyA side row = is_authorise (rules_of row).ask ≡ true → (side ≡ console) × (row ≡ row_A)
+abbrev OnlyA : Place → RowShape → Type 0
+OnlyA side row = is_authorise (rules_of row).ask ≡ true → (side ≡ Console) × (row ≡ row_A)
 
-never : (side : Side) (row : RowShape) → is_authorise (rules_of row).ask ≡ false → OnlyA side row
+never : (side : Place) (row : RowShape) → is_authorise (rules_of row).ask ≡ false → OnlyA side row
 never side row other = λ authorises. absurd (cc)
 
-host_only : AllByRecursion (OnlyA host) host_rows
+host_only : AllByRecursion (OnlyA Host) host_rows
 unfolding host_rows row_A0 row_A6 row_A8 row_BU row_CA row_CC row_DE row_DG row_DA row_EA row_DC row_EC row_BA row_NG row_JA row_CW row_CY row_M6 row_M8 row_B2 row_NC row_NO row_RA rules_A0 rules_A6 rules_A8 rules_BU rules_CA rules_CC rules_DE rules_DG rules_DA rules_EA rules_DC rules_EC rules_BA rules_NG rules_JA rules_CW rules_CY rules_M6 rules_M8 rules_RA
 host_only =
-    let no : (row : RowShape) → is_authorise (rules_of row).ask ≡ false → OnlyA host row = never host in
+    let no : (row : RowShape) → is_authorise (rules_of row).ask ≡ false → OnlyA Host row = never Host in
     (no row_A0 refl, (no row_A6 refl, (no row_A8 refl, (no row_BU refl, (no row_CA refl, (no row_CC refl, (no row_DE refl, (no row_DG refl, (no row_DA refl, (no row_EA refl, (no row_DC refl, (no row_EC refl, (no row_BA refl, (no row_NG refl, (no row_JA refl, (no row_CW refl, (no row_CY refl, (no row_M6 refl, (no row_M8 refl, (no row_B2 refl, (no row_NC refl, (no row_NO refl, (no row_RA refl, tt)))))))))))))))))))))))
 
-console_only : AllByRecursion (OnlyA console) console_rows
+console_only : AllByRecursion (OnlyA Console) console_rows
 unfolding console_rows row_A row_C row_VA row_Q row_LOG row_GC row_FK rules_A rules_C rules_LOG rules_GC rules_FK
 console_only =
-    let no : (row : RowShape) → is_authorise (rules_of row).ask ≡ false → OnlyA console row = never console in
+    let no : (row : RowShape) → is_authorise (rules_of row).ask ≡ false → OnlyA Console row = never Console in
     (λ authorises. (refl, refl), (no row_C refl, (no row_VA refl, (no row_Q refl, (no row_LOG refl, (no row_GC refl, (no row_FK refl, tt)))))))
 
-side_only : (side : Side) → AllByRecursion (OnlyA side) (rows_of side)
-side_only host = host_only
-side_only console = console_only
+side_only : (side : Place) → AllByRecursion (OnlyA side) (rows_of side)
+side_only Host = host_only
+side_only Console = console_only
 
 module _ (m : Module) (a : Activity) (n : ℕ) where
   cancels : (all : Bool) (o : Option Activity) → (if all then ask.CancelAll else cancel o) ≡ ask.Authorise a n → ⊥
@@ -91,7 +93,7 @@ module _ (m : Module) (a : Activity) (n : ℕ) where
   authorises_kind kind e = ap is_authorise e
 
   -- an `A` whose ask authorises
-  by_words : (side : Side) (message : List ℕ) (r : ReadText) → side ≡ console → enabled_row m side (command_of m side message) ≡ Some row_A
+  by_words : (side : Place) (message : List ℕ) (r : ReadText) → side ≡ Console → enabled_row m side (command_of m side message) ≡ Some row_A
       → reading row_A (text_after m side message) ≡ Ok r
       → (held : Bool) → are_digests m.officers (field_text r 2) (field_text r 3) ≡ held → (named : Option Activity) → activity_of (field_text r 0) ≡ named
       → (if held then authorise named (decimal_from 0 (field_text r 1)) else empty_ask) ≡ ask.Authorise a n → Authorises m side message a n
@@ -101,8 +103,8 @@ module _ (m : Module) (a : Activity) (n : ℕ) where
       record { of_console = s; found = f; read = r; reads = e; named = o ∙ cc; lasts = cc; first = d.one; second = d.two }
   by_words side message r s f e false w named o h = none h
 
-  by_row : (side : Side) (message : List ℕ) (row : RowShape) (r : ReadText) → enabled_row m side (command_of m side message) ≡ Some row
-      → reading row (text_after m side message) ≡ Ok r → (side ≡ console) × (row ≡ row_A)
+  by_row : (side : Place) (message : List ℕ) (row : RowShape) (r : ReadText) → enabled_row m side (command_of m side message) ≡ Some row
+      → reading row (text_after m side message) ≡ Ok r → (side ≡ Console) × (row ≡ row_A)
       → row_ask m (rules_of row) r (rules_of row).ask ≡ ask.Authorise a n → Authorises m side message a n
   unfolding row_A rules_A row_ask words_hold
   by_row side message row r f e is h =
@@ -110,7 +112,7 @@ module _ (m : Module) (a : Activity) (n : ℕ) where
       (are_digests m.officers (field_text r 2) (field_text r 3)) refl (activity_of (field_text r 0)) refl
       (ap (λ (d : RowShape). row_ask m (rules_of d) r (rules_of d).ask) (sym is.1) ∙ h)
 
-  by_check : (side : Side) (message : List ℕ) (row : RowShape) (r : ReadText) (failed : Bool) → enabled_row m side (command_of m side message) ≡ Some row
+  by_check : (side : Place) (message : List ℕ) (row : RowShape) (r : ReadText) (failed : Bool) → enabled_row m side (command_of m side message) ≡ Some row
       → reading row (text_after m side message) ≡ Ok r
       → (if failed then empty_ask else row_ask m (rules_of row) r (rules_of row).ask) ≡ ask.Authorise a n → Authorises m side message a n
   by_check side message row r true f e h = none h
@@ -118,18 +120,18 @@ module _ (m : Module) (a : Activity) (n : ℕ) where
       by_row side message row r f e
       ((enabled_among (OnlyA side) m side (command_of m side message) row (side_only side) f) (authorises_kind (rules_of row).ask (kind_is (rules_of row) r (rules_of row).ask h))) h
 
-  by_reading : (side : Side) (message : List ℕ) (row : RowShape) (rd : Result ReadText Code) → enabled_row m side (command_of m side message) ≡ Some row
+  by_reading : (side : Place) (message : List ℕ) (row : RowShape) (rd : Result ReadText Code) → enabled_row m side (command_of m side message) ≡ Some row
       → reading row (text_after m side message) ≡ rd → ask_read m (rules_of row) rd ≡ ask.Authorise a n → Authorises m side message a n
   unfolding ask_read
   by_reading side message row (Err code) f e h = none h
   by_reading side message row (Ok r) f e h = by_check side message row r (is_some (check_before m (rules_of row) r)) f e h
 
-  by_enabled : (side : Side) (message : List ℕ) (found : Option RowShape) → enabled_row m side (command_of m side message) ≡ found
+  by_enabled : (side : Place) (message : List ℕ) (found : Option RowShape) → enabled_row m side (command_of m side message) ≡ found
       → ask_by m side message found ≡ ask.Authorise a n → Authorises m side message a n
   unfolding ask_of
   by_enabled side message None f h = none h
   by_enabled side message (Some row) f h = by_reading side message row (reading row (text_after m side message)) f refl h
 
-pub words_authorise : (m : Module) (side : Side) (message : List ℕ) (a : Activity) (n : ℕ) → message_ask m side message ≡ ask.Authorise a n → Authorises m side message a n
+pub words_authorise : (m : Module) (side : Place) (message : List ℕ) (a : Activity) (n : ℕ) → message_ask m side message ≡ ask.Authorise a n → Authorises m side message a n
 unfolding message_ask
 words_authorise m side message a n h = by_enabled m a n side message (enabled_row m side (command_of m side message)) refl h

@@ -19,10 +19,11 @@ use Rattle.hsm_rows.specs.Reading.{reading, ReadText}
 use Rattle.hsm_rows.specs.Clear.{has_clear}
 use Rattle.hsm_answers.specs.Checks.{check_read, fixed_need}
 use Rattle.hsm_answers.specs.Keys.{field_text, type_of_code}
-use Rattle.hsm_answers.specs.Messages.{Side, console, command_of, enabled_row, text_after}
+use Rattle.hsm_answers.specs.Messages.{command_of, enabled_row, text_after}
+use Rattle.hsm_auth.specs.declared.activity.Place.{Place}
 
 -- the message is answered 00 or `OK` by a row that shows a clear key or PIN
-pub record ShowsClear (m : Module) (side : Side) (message : List ℕ) (g : Granted) : Type 0 where
+pub record ShowsClear (m : Module) (side : Place) (message : List ℕ) (g : Granted) : Type 0 where
   pub row : RowShape
   pub found : enabled_row m side (command_of m side message) ≡ Some row
   pub marked : has_clear row ≡ true
@@ -74,8 +75,8 @@ pub record IsGrantedAt (row : RowShape) (read : ReadText) (h : List Entry) (i : 
   pub given : IsGivenBefore h i giver grant
 
 -- the message is a console's `A` that names the activity and the minutes, and bears both officers' words, the first officer's first
-pub record Authorises (m : Module) (side : Side) (message : List ℕ) (activity : Activity) (minutes : ℕ) : Type 0 where
-  pub of_console : side ≡ console
+pub record Authorises (m : Module) (side : Place) (message : List ℕ) (activity : Activity) (minutes : ℕ) : Type 0 where
+  pub of_console : side ≡ Console
   pub found : enabled_row m side (command_of m side message) ≡ Some row_A
   pub read : ReadText
   pub reads : reading row_A (text_after m side message) ≡ Ok read

@@ -4,6 +4,8 @@ use Rattle.hsm_types.specs.declared.types.KeyType.{KeyType}
 use Rattle.hsm_lmk.specs.Opened.{opened}
 use Rattle.hsm_lmk.specs.Sealing.{wrap}
 use Rattle.hsm_lmk.specs.declared.kept.KeyEntry.{KeyEntry}
+use Rattle.hsm_auth.specs.declared.activity.Place.{Place}
+use Rattle.hsm_auth.specs.declared.activity.Place.TheVariants.{Host, Console}
 use Rattle.hsm_rows.specs.declared.settings.Module.{Module}
 use Rattle.hsm_rows.specs.declared.row.Code.{Code}
 use Rattle.hsm_rows.specs.declared.rules.KeyCheck.{KeyCheck}
@@ -13,7 +15,7 @@ use Rattle.hsm_rows.specs.Reading.{reading, ReadText, is_end}
 use Rattle.hsm_rows.specs.Rules.{RowRules}
 use Rattle.hsm_rows.specs.Table.{RowShape, rules_of}
 use Rattle.hsm_answers.specs.Keys.{KeyData, field_text, key_data, key_fault, set_of, type_of}
-use Rattle.hsm_answers.specs.Messages.{Side, host, console, command_of, enabled_row, text_after}
+use Rattle.hsm_answers.specs.Messages.{command_of, enabled_row, text_after}
 
 -- the entry of a key text of the type
 abbrev pub entry_for : List (List (List ℕ)) → KeyType → Option KeyData → List KeyEntry
@@ -43,9 +45,9 @@ opened_by m row text = read_entries m (rules_of row) (reading row text)
 -- what a host's message in the row opens; a command in no row opens nothing
 abbrev pub opened_in : Module → List ℕ → Option RowShape → List KeyEntry
 opened_in m message None = []
-opened_in m message (Some row) = opened_by m row (text_after m host message)
+opened_in m message (Some row) = opened_by m row (text_after m Host message)
 
 -- what a message opens; the console's open nothing
-abbrev pub opened_of : Module → Side → List ℕ → List KeyEntry
-opened_of m host message = opened_in m message (enabled_row m host (command_of m host message))
-opened_of m console message = []
+abbrev pub opened_of : Module → Place → List ℕ → List KeyEntry
+opened_of m Host message = opened_in m message (enabled_row m Host (command_of m Host message))
+opened_of m Console message = []

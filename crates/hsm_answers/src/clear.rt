@@ -8,7 +8,8 @@ ghost use Rattle.hsm_auth.specs.History.{IsLegal, outcome};
 ghost use Rattle.hsm_rows.specs.declared.settings.Module.{Module};
 ghost use Rattle.hsm_rows.specs.Table.{row_GC, row_NG};
 ghost use Rattle.hsm_answers.specs.Clear.{Authorises, IsGrantedAt, ShowsClear};
-ghost use Rattle.hsm_answers.specs.Messages.{Side, message_ask};
+ghost use Rattle.hsm_answers.specs.Messages.{message_ask};
+ghost use Rattle.hsm_auth.specs.declared.activity.Place.{Place};
 
 use hsm_auth::live_grants;
 
@@ -17,11 +18,11 @@ use hsm_auth::live_grants;
 /// before it covers that activity, an earlier entry gave that grant, and no entry between the two ends it. So it is in any history
 /// where the entry is answered what the entries before it say. It does nothing.
 pub fn clear_where_granted()
-    ensures rows { (m : Module) (side : Side) (message : List ℕ) (g : Granted) → (s : ShowsClear m side message g) → (s.row ≡ row_NG) ⊎ (s.row ≡ row_GC) }
-    ensures legal { (m : Module) (side : Side) (message : List ℕ) (h : List Entry) (i : ℕ) (e : Entry)
+    ensures rows { (m : Module) (side : Place) (message : List ℕ) (g : Granted) → (s : ShowsClear m side message g) → (s.row ≡ row_NG) ⊎ (s.row ≡ row_GC) }
+    ensures legal { (m : Module) (side : Place) (message : List ℕ) (h : List Entry) (i : ℕ) (e : Entry)
         → IsLegal h → slice_get h i ≡ Some e → e.ask ≡ message_ask m side message
         → (s : ShowsClear m side message e.granted) → IsGrantedAt s.row s.read h i e }
-    ensures answered { (m : Module) (side : Side) (message : List ℕ) (h : List Entry) (i : ℕ) (e : Entry)
+    ensures answered { (m : Module) (side : Place) (message : List ℕ) (h : List Entry) (i : ℕ) (e : Entry)
         → slice_get h i ≡ Some e → e.ask ≡ message_ask m side message → e.granted ≡ outcome (take i h) e.moment e.ask
         → (s : ShowsClear m side message e.granted) → IsGrantedAt s.row s.read h i e }
 {
@@ -30,6 +31,6 @@ pub fn clear_where_granted()
 
 /// Only a console text that bears both officers' words asks for an authorisation.
 pub fn words_authorise()
-    ensures { (m : Module) (side : Side) (message : List ℕ) (activity : Activity) (minutes : ℕ)
+    ensures { (m : Module) (side : Place) (message : List ℕ) (activity : Activity) (minutes : ℕ)
         → message_ask m side message ≡ Authorise activity minutes → Authorises m side message activity minutes }
 {}

@@ -8,11 +8,11 @@ use Rattle.hsm_auth.specs.declared.entry.Entry.{Entry}
 use Rattle.hsm_auth.specs.History.{IsLegal}
 use Rattle.hsm_auth.specs.Own.{own}
 use Rattle.hsm_answers.specs.Clear.{Authorises, IsGrantedAt, ShowsClear}
-use Rattle.hsm_answers.specs.Messages.{Side, console, message_ask}
+use Rattle.hsm_answers.specs.Messages.{message_ask}
+use Rattle.hsm_auth.specs.declared.activity.Place.{Place}
 use Rattle.hsm_rows.specs.declared.settings.Module.{Module}
-use Rattle.hsm_auth.specs.declared.activity.Place.TheVariants.{Host}
+use Rattle.hsm_auth.specs.declared.activity.Place.TheVariants.{Host, Console}
 use Rattle.hsm_session.specs.Connections.{AuthoriseNothing, IsEntryFor, asks_authorisation}
-use Rattle.hsm_session.specs.Plans.{side_of}
 use Rattle.hsm_server.specs.Lanes.{IsServed, Served, all_entries, place_of}
 use Rattle.hsm_program.proofs.Lists.{index_at, within}
 use Rattle.hsm_program.specs.Headline.{IsAnsweredAt, IsByOfficers, ShowsGranted}
@@ -96,11 +96,11 @@ abbrev pub OwnEvery : Type 0
 OwnEvery = (n : ℕ) (h : List Entry) (place : ℕ) (e : Entry) → slice_get h place ≡ Some e → e.pass ≡ n → (j : ℕ) × (slice_get (own n h) j ≡ Some (place, e))
 
 abbrev pub WordsAuthorise : Type 0
-WordsAuthorise = (m : Module) (side : Side) (message : List ℕ) (activity : Activity) (minutes : ℕ)
+WordsAuthorise = (m : Module) (side : Place) (message : List ℕ) (activity : Activity) (minutes : ℕ)
     → message_ask m side message ≡ Authorise activity minutes → Authorises m side message activity minutes
 
 abbrev pub ClearWhereGranted : Type 0
-ClearWhereGranted = (m : Module) (side : Side) (message : List ℕ) (h : List Entry) (i : ℕ) (e : Entry)
+ClearWhereGranted = (m : Module) (side : Place) (message : List ℕ) (h : List Entry) (i : ℕ) (e : Entry)
     → IsLegal h → slice_get h i ≡ Some e → e.ask ≡ message_ask m side message
     → (s : ShowsClear m side message e.granted) → IsGrantedAt s.row s.read h i e
 
@@ -133,8 +133,8 @@ by_officers every words m history connections place entry activity minutes known
     let w = within_joined (λ (served : Served). served.entries) lane.0 mine.0 (place, entry)
     (ap (λ (entries : List (ℕ × Entry)). slice_get entries mine.0) (sym of_lane.entries) ∙ mine.1) in
     let served : IsServed m (place_of entry.pass) w.from = all_at (IsServed m (place_of entry.pass)) lane.0 w.at w.from of_lane.each w.there in
-    let message = zip_other (IsEntryFor m (side_of (place_of entry.pass))) w.from.messages w.from.entries w.index (place, entry) served.each w.here in
-    let of_console : message_ask m console message.0 ≡ entry.ask = sym (message.2 ∙ ap (λ (n : ℕ). message_ask m (side_of (place_of n)) message.0) zero_is) in (
+    let message = zip_other (IsEntryFor m (place_of entry.pass)) w.from.messages w.from.entries w.index (place, entry) served.each w.here in
+    let of_console : message_ask m Console message.0 ≡ entry.ask = sym (message.2 ∙ ap (λ (n : ℕ). message_ask m (place_of n) message.0) zero_is) in (
       zero_is,
       record {
         message = message.0;
@@ -148,20 +148,20 @@ by_officers every words m history connections place entry activity minutes known
           message_there = message.1;
           entry_there = w.here;
         };
-        words = words m console message.0 activity minutes (of_console ∙ asks);
+        words = words m Console message.0 activity minutes (of_console ∙ asks);
       },
     )
 
 -- the entry at which a message was answered stands at its place in the history, and has what the message asks
 answered_there : OwnThere → (m : Module) (history : List Entry) (connections : List (List Served)) (number : ℕ) (message : List ℕ) (place : ℕ) (entry : Entry)
     → AllKnown m history connections → IsAnsweredAt connections number message place entry
-    → (slice_get history place ≡ Some entry) × (entry.ask ≡ message_ask m (side_of (place_of number)) message)
+    → (slice_get history place ≡ Some entry) × (entry.ask ≡ message_ask m (place_of number) message)
 answered_there there m history connections number message place entry known a =
     let of_lane = known.lanes number a.lane a.lane_there in
     let served : IsServed m (place_of number) a.served = all_at (IsServed m (place_of number)) a.lane a.connection a.served of_lane.each a.served_there in
     let j = joined_within (λ (served : Served). served.entries) a.lane a.connection a.served a.index (place, entry) a.served_there a.entry_there in
     let mine = there number history j.0 place entry (ap (λ (entries : List (ℕ × Entry)). slice_get entries j.0) of_lane.entries ∙ j.1) in
-    (mine.0, zip_both (IsEntryFor m (side_of (place_of number))) a.served.messages a.served.entries a.index message (place, entry) served.each a.message_there a.entry_there)
+    (mine.0, zip_both (IsEntryFor m (place_of number)) a.served.messages a.served.entries a.index message (place, entry) served.each a.message_there a.entry_there)
 
 pub clear_fields : OwnThere → OwnEvery → WordsAuthorise → ClearWhereGranted → (m : Module) (history : List Entry) (connections : List (List Served))
     → AllKnown m history connections → ShowsGranted m connections history
@@ -169,7 +169,7 @@ clear_fields there every words clear m history connections known = record {
   console = λ place entry activity minutes at asks. by_officers every words m history connections place entry activity minutes known at asks;
   granted = λ number message place entry answered shows.
       let here = answered_there there m history connections number message place entry known answered in
-      let g = clear m (side_of (place_of number)) message history place entry known.legal here.0 here.1 shows in
+      let g = clear m (place_of number) message history place entry known.legal here.0 here.1 shows in
       record {
         at_entry = g;
         by_officers = (by_officers every words m history connections g.giver g.given.entry g.grant.activity g.given.minutes known g.given.there g.given.asks).1;

@@ -11,7 +11,7 @@ use Rattle.hsm_auth.specs.declared.entry.Entry.{Entry}
 use Rattle.hsm_auth.specs.History.{IsLegal}
 use Rattle.hsm_auth.specs.Own.{own}
 use Rattle.hsm_answers.specs.Clear.{Authorises, IsGrantedAt, ShowsClear}
-use Rattle.hsm_answers.specs.Messages.{console}
+use Rattle.hsm_auth.specs.declared.activity.Place.TheVariants.{Console}
 use Rattle.hsm_config.specs.declared.configuration.Config.{Config}
 use Rattle.hsm_config.specs.Configs.{module_of}
 use Rattle.hsm_desk.specs.Passes.{PassView, IsWhole}
@@ -21,7 +21,7 @@ use Rattle.hsm_rows.specs.Reading.{ReadText}
 use Rattle.hsm_rows.specs.Table.{RowShape}
 use Rattle.hsm_server.specs.Lanes.{IsServed, LaneView, Served, all_entries, all_reports, bytes_of, place_of, message_count}
 use Rattle.hsm_session.specs.Connections.{HaveMoments, Hears, Leaves, WritesAnswers, framed_answers}
-use Rattle.hsm_session.specs.Plans.{least_for, side_of}
+use Rattle.hsm_session.specs.Plans.{least_for}
 use Rattle.hsm_config.specs.Configs.{ports_of}
 
 -- What serving was given: the configuration and the seed, and where the bench tells them the connections that were to come at each port and the
@@ -55,7 +55,7 @@ pub record IsOneHistory (pass : PassView) : Type 0 where
 -- What was written to a connection are the framed answers to its messages, at their entries; after a failed write a part from their front.
 abbrev pub IsWritten : Module → ℕ → Served → Taken → Type 0
 IsWritten m number served taken =
-    WritesAnswers taken.traffic.written (framed_answers m (side_of (place_of number)) served.messages served.entries) served.report.ended
+    WritesAnswers taken.traffic.written (framed_answers m (place_of number) served.messages served.entries) served.report.ended
 
 -- Each lane: it booked with its own number. The entries of that number are those of its connections' messages, one for each, in their order, with what
 -- the message asks, at the moments that its clock was to give; and each connection was written the answers at these entries.
@@ -103,7 +103,7 @@ pub record IsAnsweredAt (connections : List (List Served)) (number : ℕ) (messa
 pub record IsByOfficers (m : Module) (connections : List (List Served)) (place : ℕ) (entry : Entry) (activity : Activity) (minutes : ℕ) : Type 0 where
   pub message : List ℕ
   pub answered : IsAnsweredAt connections 0 message place entry
-  pub words : Authorises m console message activity minutes
+  pub words : Authorises m Console message activity minutes
 
 -- The entry of an answer that shows a clear key or PIN was granted: it is answered `Use`, it needs the activity of the row's mark, and a grant that covers the
 -- activity is live just before it. An earlier entry gave that grant, no entry between ends it, and it is that of a text with both officers' words.
@@ -116,7 +116,7 @@ pub record ShowsGranted (m : Module) (connections : List (List Served)) (history
   pub console : (place : ℕ) (entry : Entry) (activity : Activity) (minutes : ℕ) → slice_get history place ≡ Some entry → entry.ask ≡ Authorise activity minutes
       → (entry.pass ≡ 0) × IsByOfficers m connections place entry activity minutes
   pub granted : (number : ℕ) (message : List ℕ) (place : ℕ) (entry : Entry) → IsAnsweredAt connections number message place entry
-      → (s : ShowsClear m (side_of (place_of number)) message entry.granted) → IsGrantedBy m connections history place entry s.row s.read
+      → (s : ShowsClear m (place_of number) message entry.granted) → IsGrantedBy m connections history place entry s.row s.read
 
 -- The theorem in six parts, for the connections that each lane served.
 pub record Headline (setting : Setting) (lanes : List LaneView) (pass : PassView) : Type 0 where

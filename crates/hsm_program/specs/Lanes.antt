@@ -92,5 +92,5 @@ Joins None other pass = (pass ≡ other) × Sound other
 Joins (Some mine) other pass = (pass.kin ≡ mine.kin ++ other.kin) × KeepsOwn mine pass × KeepsOwn other pass × Sound pass
 
 -- what becomes of a lane
-abbrev pub end_of : {D C G : Type 0} → Lane D C G → LaneEnd D
-end_of lane = record { door = lane.door; reports = lane.reports; door_fault = lane.door_fault }
+abbrev pub end_of_lane : {D C G : Type 0} → Lane D C G → LaneEnd D
+end_of_lane lane = record { door = lane.door; reports = lane.reports; door_fault = lane.door_fault }

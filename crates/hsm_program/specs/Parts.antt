@@ -2,21 +2,18 @@
 use Rattle.std.specs.Prelude.{◌≡◌, ◌<◌, ◌≤◌, ℕ, List, length, Result, Ok, Err}
 use Rattle.hsm_config.specs.Configs.{config_in}
 use Rattle.hsm_config.specs.declared.configuration.Config.{Config}
-use Rattle.hsm_config.specs.declared.configuration.ConfigFault.TheVariants.{NotToml, Rule}
-use Rattle.hsm_config.specs.declared.configuration.ConfigFault.TheVariants as fault
 use Rattle.hsm_program.specs.Files.{file_limit}
-use Rattle.hsm_program.specs.Settings.{Says}
+use Rattle.hsm_program.specs.Runs.{HasStatus}
+use Rattle.hsm_program.specs.Settings.{HoldsConfig}
 use Rattle.hsm_program.specs.declared.outcome.Outcome.{Outcome}
 use Rattle.hsm_program.specs.declared.outcome.Outcome.TheVariants.{Served, Usage, FileFault, SeedFault, ListenFault, OutFault, FileLong, ConfigRefused, ScriptRefused, Memory}
 
 -- why a configuration is not there, and the status then
 abbrev pub IsRefusal : ℕ → Outcome → Type 0
-IsRefusal status FileFault = status ≡ 3
-IsRefusal status FileLong = status ≡ 4
-IsRefusal status (ConfigRefused NotToml) = status ≡ 4
-IsRefusal status (ConfigRefused (Rule n)) = status ≡ 4
-IsRefusal status (ConfigRefused fault.Memory) = ⊥
-IsRefusal status Memory = status ≡ 5
+IsRefusal status FileFault = HasStatus status FileFault
+IsRefusal status FileLong = HasStatus status FileLong
+IsRefusal status (ConfigRefused why) = HasStatus status (ConfigRefused why)
+IsRefusal status Memory = HasStatus status Memory
 IsRefusal status Served = ⊥
 IsRefusal status OutFault = ⊥
 IsRefusal status SeedFault = ⊥
@@ -39,7 +36,7 @@ RefusesConfig bytes (ScriptRefused line) = ⊥
 
 -- the configuration that the bytes of a file say, or why there is none
 abbrev pub ReadsConfig : List ℕ → Result Config (ℕ × Outcome) → Type 0
-ReadsConfig bytes (Ok config) = Says bytes config
+ReadsConfig bytes (Ok config) = HoldsConfig bytes config
 ReadsConfig bytes (Err ended) = RefusesConfig bytes ended.1
 
 -- an answer that comes only after the configuration

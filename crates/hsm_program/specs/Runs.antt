@@ -11,7 +11,7 @@ use Rattle.hsm_rows.specs.declared.settings.Module.{Module}
 use Rattle.hsm_session.specs.declared.script.ScriptEnd.{ScriptEnd}
 use Rattle.hsm_session.specs.Scripts.{Said, script_of}
 use Rattle.hsm_answers.specs.Clear.{ShowsClear}
-use Rattle.hsm_answers.specs.Messages.{Side}
+use Rattle.hsm_auth.specs.declared.activity.Place.{Place}
 use Rattle.hsm_auth.specs.declared.activity.Activity.{Activity}
 use Rattle.hsm_auth.specs.declared.entry.Ask.TheVariants.{Authorise}
 use Rattle.hsm_session.specs.Clear.{IsByOfficers, IsEntryOf, IsGranted}
@@ -120,7 +120,7 @@ AuthorisedByOfficers m lines history =
 -- grant covers that activity, and a console text of the script, an `A` with both officers' words, gave that grant before.
 abbrev pub ShowsGranted : Module → List Said → List Entry → Type 0
 ShowsGranted m lines history =
-    (i : ℕ) (e : Entry) (side : Side) (moment : ℕ) (message : List ℕ)
+    (i : ℕ) (e : Entry) (side : Place) (moment : ℕ) (message : List ℕ)
     → slice_get history i ≡ Some e → IsEntryOf m history i side moment message → (s : ShowsClear m side message e.granted)
     → IsGranted m lines 0 history i e s.row s.read
 

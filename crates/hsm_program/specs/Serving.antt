@@ -18,7 +18,7 @@ use Rattle.hsm_server.specs.Lanes.{LaneView, lane_view, fault_count, is_fault, m
 use Rattle.hsm_program.specs.Headline.{Headline, WhereTold}
 use Rattle.hsm_program.specs.Runs.{HasStatus}
 use Rattle.hsm_config.specs.Configs.{ports_of}
-use Rattle.hsm_program.specs.Settings.{Says}
+use Rattle.hsm_program.specs.Settings.{HoldsConfig}
 use Rattle.hsm_program.specs.Words.{Asked, usage, serve, script, check, explain, make}
 use Rattle.hsm_program.specs.declared.outcome.Outcome.{Outcome}
 use Rattle.hsm_program.specs.declared.outcome.Outcome.TheVariants.{Served, Usage, FileFault, SeedFault, ListenFault, OutFault, FileLong, ConfigRefused, ScriptRefused, Memory}
@@ -48,7 +48,7 @@ OtherThanServe (make count seed) P = P
 -- What holds of the configuration that was read from the file of this name; where the bench tells the bytes of the file, it is the one that they are.
 pub record WithConfig (files : FileSide) (name : List ℕ) (P : Config → Type 0) : Type 0 where
   pub config : Config
-  pub told : (bytes : List ℕ) → files.bytes_of name ≡ Some bytes → Says bytes config
+  pub told : (bytes : List ℕ) → files.bytes_of name ≡ Some bytes → HoldsConfig bytes config
   pub holds : P config
 
 -- the report names a failed read or write exactly where the connection had failed

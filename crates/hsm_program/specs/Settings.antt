@@ -6,12 +6,12 @@ use Rattle.hsm_config.specs.Configs.{config_in, module_of}
 use Rattle.hsm_program.specs.Files.{file_limit}
 
 -- the bytes of a file are this configuration
-abbrev pub Says : List ℕ → Config → Type 0
-Says bytes config = (length bytes ≤ file_limit) × (config_in bytes ≡ Ok config)
+abbrev pub HoldsConfig : List ℕ → Config → Type 0
+HoldsConfig bytes config = (length bytes ≤ file_limit) × (config_in bytes ≡ Ok config)
 
 -- they are a configuration
 abbrev pub IsConfig : List ℕ → Type 0
-IsConfig bytes = (config : Config) × Says bytes config
+IsConfig bytes = (config : Config) × HoldsConfig bytes config
 
 -- the module of a script's run: that of the configuration with a seed of zeros
 abbrev pub run_module : Config → Module

@@ -7,7 +7,7 @@ ghost use Rattle.hsm_desk.specs.Passes.{IsWhole, OnlyKin};
 ghost use Rattle.hsm_io.specs.Outside.{Rose};
 ghost use Rattle.hsm_io.specs.Texts.{Appends, AppendsFront};
 ghost use Rattle.hsm_server.specs.Lanes.{is_fault, lane_view, message_count};
-ghost use Rattle.hsm_program.specs.Lanes.{AreJoined, Joins, end_of};
+ghost use Rattle.hsm_program.specs.Lanes.{AreJoined, Joins, end_of_lane};
 ghost use Rattle.hsm_program.specs.Serving.{is_cut, lane_line, lane_lines, lane_views, status_of_lanes};
 
 use hsm_desk::{Desk, Pass};
@@ -26,7 +26,7 @@ pub(crate) fn end_lanes<D: Door + Send + Drop, C: Clock + Send + Drop, G: Gate +
     requires of_desk { All (λ lane. lane.tools.pass.desk ≡ desk.now) lanes.items }
     requires none { ends.old.items ≡ [] }
     requires room { length lanes.items ≤ vec_capacity ends.old }
-    ensures ends { ends.new.items ≡ map end_of lanes.items }
+    ensures ends { ends.new.items ≡ map end_of_lane lanes.items }
     ensures joined { IfSome result (λ pass. AreJoined (map (λ lane. lane.tools.pass) lanes.items) pass) }
     ensures numbers { IfSome result (λ pass. IsWhole pass → OnlyKin pass) }
     ensures some { 0 < length lanes.items → IsSome result }

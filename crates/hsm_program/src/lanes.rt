@@ -5,7 +5,6 @@ ghost use Rattle.hsm_config.specs.Rules.{all_different};
 ghost use Rattle.hsm_desk.specs.Passes.{first_pass, new_pass, step};
 ghost use Rattle.hsm_io.specs.Sides.{IsNotAmong};
 ghost use Rattle.hsm_rows.specs.declared.settings.Module.{Module};
-ghost use Rattle.hsm_server.specs.Lanes.{lane_state};
 ghost use Rattle.hsm_program.specs.Lanes.{AreLanes, AreRefused, IsNewLane, IsRefused, OthersStay, keeps, next_span};
 ghost use Rattle.hsm_config.specs.Configs.{ports_of};
 
@@ -14,7 +13,7 @@ use hsm_config::Config;
 use hsm_desk::{Desk, Pass};
 use hsm_io::{Bench, Clock, Door, Gate};
 use hsm_rows::Module;
-use hsm_server::{Lane, kind_for};
+use hsm_server::{HasState, Lane, kind_for};
 use hsm_session::least_message;
 use std::alloc::Global;
 
@@ -50,8 +49,8 @@ fn next_span(span: usize, number: usize) -> usize
 fn split_lane<D: Door, C: Clock, G: Gate>(desk: &Desk, lane: &mut Lane<D, C, G>) -> Pass
     requires desk { lane.old.tools.pass.desk ≡ desk.now }
     requires room { step lane.old.tools.pass ≤ 2 ^ 61 }
-    ensures given { lane_state D.doorway D.faults D.broken D.is_out C.last C.to_come G.calls lane.new
-        ≡ keeps (lane_state D.doorway D.faults D.broken D.is_out C.last C.to_come G.calls lane.old) }
+    ensures given { ⟦<Lane<D, C, G> as HasState>⟧.state lane.new
+        ≡ keeps (⟦<Lane<D, C, G> as HasState>⟧.state lane.old) }
     ensures new { result ≡ new_pass lane.old.tools.pass }
 {
     desk.split(&mut lane.tools.pass)
@@ -71,7 +70,7 @@ fn open_lane<B: Bench>(
     requires new { IsNotAmong port (B.doors bench.old).asked }
     requires few { length (B.doors bench.old).asked < 65 }
     ensures opened { IfOk result (λ lane. IsNewLane «module».now accept (B.moments bench.old) ((B.doors bench.old).connections port) number pass
-        (lane_state B.Door.doorway B.Door.faults B.Door.broken B.Door.is_out B.Clock.last B.Clock.to_come B.Gate.calls lane)) }
+        (⟦<Lane<B::Door, B::Clock, B::Gate> as HasState>⟧.state lane)) }
     ensures others { IfOk result (λ lane. OthersStay port (B.doors bench.old) (B.doors bench.new)) }
     ensures asked { (B.doors bench.new).asked ≡ (B.doors bench.old).asked ++ port ∷ [] }
     ensures refused { IfErr result (λ fault. IsRefused number port (B.doors bench.old) (B.doors bench.new) fault) }
@@ -106,7 +105,7 @@ pub(crate) fn open_lanes<B: Bench>(
     requires asked { (B.doors bench.old).asked ≡ [] }
     requires different { all_different (ports_of config.now) ≡ true }
     ensures made { IfOk result (λ lanes. AreLanes «module».now config.now.accept (B.moments bench.old) (B.doors bench.old).connections (ports_of config.now) desk.now
-        (map (lane_state B.Door.doorway B.Door.faults B.Door.broken B.Door.is_out B.Clock.last B.Clock.to_come B.Gate.calls) lanes.items)) }
+        (map (⟦<Lane<B::Door, B::Clock, B::Gate> as HasState>⟧.state) lanes.items)) }
     ensures asked { IfOk result (λ lanes. (B.doors bench.new).asked ≡ ports_of config.now) }
     ensures refused { IfErr result (λ fault. AreRefused (ports_of config.now) (B.doors bench.old) (B.doors bench.new) fault) }
     ensures files { B.files bench.new ≡ B.files bench.old }

@@ -8,7 +8,7 @@ ghost use Rattle.hsm_config.specs.Rules.{all_different, are_odd};
 ghost use Rattle.hsm_config.specs.declared.configuration.Config.{Config};
 ghost use Rattle.hsm_program.specs.Files.{FilesStay, ReadsFile};
 ghost use Rattle.hsm_config.specs.Configs.{ports_of};
-ghost use Rattle.hsm_program.specs.Settings.{Says, run_module};
+ghost use Rattle.hsm_program.specs.Settings.{HoldsConfig, run_module};
 ghost use Rattle.hsm_program.specs.Words.{ReadsWords, IsLocal, asked, names, word_at};
 ghost use Rattle.hsm_program.specs.Runs.{AnswersCheck, AnswersConfig, AnswersMade, AnswersRow, AnswersScript, FileCause, HasStatus};
 ghost use Rattle.hsm_program.specs.Runs.{OfCheck, OfConfig, OfMade, OfRow, OfScript, WithoutFile, WritesNothing, status_of};
@@ -174,7 +174,7 @@ fn run_script<B: Bench, S: Sink>(
     ensures config { (bytes : List ℕ) → (B.files bench.old).bytes_of settings.now ≡ Some bytes →
         AnswersConfig settings.now bytes (B.files bench.new).bad_name result.1 }
     ensures script { (said bytes : List ℕ) (config : Config) →
-        (B.files bench.old).bytes_of settings.now ≡ Some said → (B.files bench.old).bytes_of file.now ≡ Some bytes → Says said config →
+        (B.files bench.old).bytes_of settings.now ≡ Some said → (B.files bench.old).bytes_of file.now ≡ Some bytes → HoldsConfig said config →
         AnswersScript (run_module config) bytes (S.stands_for out.old) (S.stands_for out.new) result.0 result.1 }
     ensures status { HasStatus result.0 result.1 }
     ensures nothing { WritesNothing (S.stands_for out.old) (S.stands_for out.new) result.1 }
@@ -222,7 +222,7 @@ fn check_config<B: Bench, S: Sink>(
     ensures words { (place : ℕ) → result.1 ≡ Outcome.Usage place → ⊥ }
     ensures config { (bytes : List ℕ) → (B.files bench.old).bytes_of name.now ≡ Some bytes →
         AnswersConfig name.now bytes (B.files bench.new).bad_name result.1 }
-    ensures check { (bytes : List ℕ) (config : Config) → (B.files bench.old).bytes_of name.now ≡ Some bytes → Says bytes config
+    ensures check { (bytes : List ℕ) (config : Config) → (B.files bench.old).bytes_of name.now ≡ Some bytes → HoldsConfig bytes config
         → AnswersCheck config (S.stands_for out.old) (S.stands_for out.new) result.0 result.1 }
     ensures status { HasStatus result.0 result.1 }
     ensures nothing { WritesNothing (S.stands_for out.old) (S.stands_for out.new) result.1 }
@@ -280,11 +280,11 @@ pub fn hsm_local<B: Bench, S: Sink>(
     // Where it tells those of a configuration and of the script's file, they decide the outcome, the status and the output, but for faults and want of memory.
     // Each authorisation of the run is by a console text of the script with both officers' words, and what is shown in the clear is shown under a grant so given.
     ensures script { OfScript (asked (names words.now)) (λ name file. (settings bytes : List ℕ) (config : Config) →
-        (B.files bench.old).bytes_of name ≡ Some settings → (B.files bench.old).bytes_of file ≡ Some bytes → Says settings config →
+        (B.files bench.old).bytes_of name ≡ Some settings → (B.files bench.old).bytes_of file ≡ Some bytes → HoldsConfig settings config →
         AnswersScript (run_module config) bytes (S.stands_for out.old) (S.stands_for out.new) result.0 result.1) }
     // Of a configuration to check the line is written, but for faults and want of memory.
     ensures check { OfCheck (asked (names words.now)) (λ name. (bytes : List ℕ) (config : Config) →
-        (B.files bench.old).bytes_of name ≡ Some bytes → Says bytes config →
+        (B.files bench.old).bytes_of name ≡ Some bytes → HoldsConfig bytes config →
         AnswersCheck config (S.stands_for out.old) (S.stands_for out.new) result.0 result.1) }
     // Of a row its lines are written. Only a write can fail, and want of memory never comes.
     ensures row { OfRow (asked (names words.now)) (λ row. AnswersRow row (S.stands_for out.old) (S.stands_for out.new) result.0 result.1) }

@@ -5,7 +5,7 @@ ghost use Rattle.hsm_io.specs.Outside.{Rose};
 ghost use Rattle.hsm_config.specs.declared.configuration.Config.{Config};
 ghost use Rattle.hsm_server.specs.Lanes.{lane_view};
 ghost use Rattle.hsm_program.specs.Files.{FilesStay};
-ghost use Rattle.hsm_program.specs.Settings.{Says, run_module};
+ghost use Rattle.hsm_program.specs.Settings.{HoldsConfig, run_module};
 ghost use Rattle.hsm_program.specs.Words.{asked, names};
 ghost use Rattle.hsm_program.specs.Runs.{AnswersCheck, AnswersConfig, AnswersMade, AnswersRow, AnswersScript, AnswersWords, FileCause};
 ghost use Rattle.hsm_program.specs.Runs.{OfCheck, OfConfig, OfMade, OfRow, OfScript, WithoutFile, WritesNothing};
@@ -84,11 +84,11 @@ where
     // Where the bench tells the bytes of a configuration and of the script's file, they decide the outcome, the status and the output, but for faults and want of memory.
     // Each authorisation of the run is by a console text of the script with both officers' words, and what is shown in the clear is shown under a grant so given.
     ensures script { OfScript (asked (names words.now)) (λ name file. (settings bytes : List ℕ) (config : Config) →
-        (B.files bench.old).bytes_of name ≡ Some settings → (B.files bench.old).bytes_of file ≡ Some bytes → Says settings config →
+        (B.files bench.old).bytes_of name ≡ Some settings → (B.files bench.old).bytes_of file ≡ Some bytes → HoldsConfig settings config →
         AnswersScript (run_module config) bytes (S.stands_for out.old) (S.stands_for out.new) result.status result.outcome) }
     // Of a configuration to check the line is written, but for faults and want of memory.
     ensures check { OfCheck (asked (names words.now)) (λ name. (bytes : List ℕ) (config : Config) →
-        (B.files bench.old).bytes_of name ≡ Some bytes → Says bytes config →
+        (B.files bench.old).bytes_of name ≡ Some bytes → HoldsConfig bytes config →
         AnswersCheck config (S.stands_for out.old) (S.stands_for out.new) result.status result.outcome) }
     // Of a row its lines are written. Only a write can fail, and want of memory never comes.
     ensures row { OfRow (asked (names words.now)) (λ row. AnswersRow row (S.stands_for out.old) (S.stands_for out.new) result.status result.outcome) }

@@ -10,7 +10,7 @@ ghost use Rattle.hsm_program.specs.Runs.{AnswersConfig, WritesNothing};
 ghost use Rattle.hsm_program.specs.Serving.{AnswersServe, HasServed, IsListenFault, IsServeStatus, IsThere, ServedBy, has_lanes, lane_views};
 ghost use Rattle.hsm_config.specs.Configs.{ports_of};
 ghost use Rattle.hsm_rows.specs.declared.settings.Module.{Module};
-ghost use Rattle.hsm_server.specs.Lanes.{EachLane, IsReady, Ran, lane_state, message_count};
+ghost use Rattle.hsm_server.specs.Lanes.{EachLane, IsReady, Ran, message_count};
 
 use crate::ends::{end_lanes, print_lanes, status_of};
 use crate::lanes::{LanesFault, open_lanes};
@@ -23,7 +23,7 @@ use hsm_config::Config;
 use hsm_desk::{Desk, Pass};
 use hsm_io::{Bench, Clock, Door, Gate, Sink};
 use hsm_rows::Module;
-use hsm_server::{Lane, LaneEnd, run_lanes};
+use hsm_server::{HasState, Lane, LaneEnd, run_lanes};
 use std::alloc::Global;
 use std::sync::Wait;
 use std::thread::Threads;
@@ -42,10 +42,10 @@ where
     C: Clock + Send,
     G: Gate + Send,
     requires ready { All (λ lane. IsReady «module».now desk.now
-        (lane_state D.doorway D.faults D.broken D.is_out C.last C.to_come G.calls lane)) lanes.old.items }
+        (⟦<Lane<D, C, G> as HasState>⟧.state lane)) lanes.old.items }
     ensures ran { EachLane (λ before after. Ran «module».now
-        (lane_state D.doorway D.faults D.broken D.is_out C.last C.to_come G.calls before)
-        (lane_state D.doorway D.faults D.broken D.is_out C.last C.to_come G.calls after)) lanes.old.items lanes.new.items }
+        (⟦<Lane<D, C, G> as HasState>⟧.state before)
+        (⟦<Lane<D, C, G> as HasState>⟧.state after)) lanes.old.items lanes.new.items }
     ensures desk { All (λ lane. lane.tools.pass.desk ≡ desk.now) lanes.new.items }
     ensures count { length lanes.new.items ≡ length lanes.old.items }
 {

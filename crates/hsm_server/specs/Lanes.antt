@@ -14,7 +14,7 @@ use Rattle.hsm_session.specs.declared.serving.ConnEnd.{ConnEnd}
 use Rattle.hsm_session.specs.declared.serving.ConnEnd.TheVariants.{Clean, Cut, Short, ReadFault, WriteFault}
 use Rattle.hsm_session.specs.declared.serving.Report.{Report}
 use Rattle.hsm_session.specs.Connections.{IsEntryFor, AskClock, AuthoriseNothing, Reports, Talks}
-use Rattle.hsm_session.specs.Plans.{least_for, side_of}
+use Rattle.hsm_session.specs.Plans.{least_for}
 use Rattle.hsm_server.specs.declared.lane.Lane.{Lane}
 use Rattle.hsm_server.specs.declared.lane.LaneEnd.{LaneEnd}
 
@@ -88,7 +88,7 @@ all_calls number connections = flat_map (λ served. gate_calls number 0 (length 
 
 -- Each message has its entry, and the report counts the entries.
 pub record IsServed (m : Module) (kind : Place) (served : Served) : Type 0 where
-  pub each : AllZip (IsEntryFor m (side_of kind)) served.messages served.entries
+  pub each : AllZip (IsEntryFor m kind) served.messages served.entries
   pub reported : Reports served.report served.entries
 
 -- whether a connection ended by a failed read or write

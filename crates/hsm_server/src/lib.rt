@@ -4,6 +4,8 @@
 mod lane;
 mod run;
 mod setup;
+mod state;
 
 pub use lane::{Lane, LaneEnd};
 pub use run::{kind_for, run_lanes};
+pub use state::HasState;

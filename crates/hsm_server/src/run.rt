@@ -3,9 +3,10 @@ ghost use Rattle.std.specs.Prelude.{◌≡◌, All};
 ghost use Rattle.std.specs.Thread.{IsSend, IsSync};
 ghost use Rattle.atomic_table.specs.Seated.{TableId};
 ghost use Rattle.hsm_rows.specs.declared.settings.Module.{Module};
-ghost use Rattle.hsm_server.specs.Lanes.{IsReady, Ran, EachLane, place_of, lane_state};
+ghost use Rattle.hsm_server.specs.Lanes.{IsReady, Ran, EachLane, place_of};
 
 use crate::lane::Lane;
+use crate::state::HasState;
 use hsm_auth::Place;
 use hsm_desk::Desk;
 use hsm_io::{Came, Clock, Door, Gate};
@@ -37,11 +38,11 @@ pub fn kind_for(number: u32) -> Place
 }
 
 impl<D: Door + Send, C: Clock + Send, G: Gate + Send> Work for Lane<D, C, G> {
-    ghost ready = { λ m desk lane. IsReady m desk (lane_state D.doorway D.faults D.broken D.is_out C.last C.to_come G.calls lane) };
+    ghost ready = { λ m desk lane. IsReady m desk (⟦<Lane<D, C, G> as HasState>⟧.state lane) };
 
     ghost done = { λ m before after. Ran m
-        (lane_state D.doorway D.faults D.broken D.is_out C.last C.to_come G.calls before)
-        (lane_state D.doorway D.faults D.broken D.is_out C.last C.to_come G.calls after) };
+        (⟦<Lane<D, C, G> as HasState>⟧.state before)
+        (⟦<Lane<D, C, G> as HasState>⟧.state after) };
 
     fn work<R: Wait>(&mut self, rt: &R, module: &Module, desk: &Desk) {
         self.tools.pass.facts();
@@ -104,10 +105,10 @@ where
     D: Door + Send,
     C: Clock + Send,
     G: Gate + Send,
-    requires ready { All (λ lane. IsReady «module».now desk.now (lane_state D.doorway D.faults D.broken D.is_out C.last C.to_come G.calls lane)) lanes.old }
+    requires ready { All (λ lane. IsReady «module».now desk.now (⟦<Lane<D, C, G> as HasState>⟧.state lane)) lanes.old }
     ensures ran { EachLane (λ before after. Ran «module».now
-        (lane_state D.doorway D.faults D.broken D.is_out C.last C.to_come G.calls before)
-        (lane_state D.doorway D.faults D.broken D.is_out C.last C.to_come G.calls after)) lanes.old lanes.new }
+        (⟦<Lane<D, C, G> as HasState>⟧.state before)
+        (⟦<Lane<D, C, G> as HasState>⟧.state after)) lanes.old lanes.new }
     ensures desk { All (λ lane. lane.tools.pass.desk ≡ desk.now) lanes.new }
 {
     run_by_halves(rt, module, desk, lanes)

@@ -1,9 +1,9 @@
 //! How a lane is made, and how it is taken apart.
 ghost use Rattle.std.specs.Prelude.{◌≡◌, [], false, IfOk, IfErr, Some};
 ghost use Rattle.hsm_io.specs.Connections.{Doorway};
-ghost use Rattle.hsm_server.specs.Lanes.{lane_state};
 
 use crate::lane::{Lane, LaneEnd};
+use crate::state::HasState;
 use arrayvec::ArrayVec;
 use hsm_desk::Pass;
 use hsm_frame::Frames;
@@ -28,7 +28,7 @@ impl<D: Door + Send + Drop, C: Clock + Send + Drop, G: Gate + Send + Drop> Lane<
         requires none_out { D.is_out door ≡ false }
         // Where the door tells, no connection was taken back.
         requires none_taken { (d : Doorway) → D.doorway door ≡ Some d → d.taken ≡ [] }
-        ensures made { IfOk result (λ lane. lane_state D.doorway D.faults D.broken D.is_out C.last C.to_come G.calls lane ≡ record {
+        ensures made { IfOk result (λ lane. ⟦<Lane<D, C, G> as HasState>⟧.state lane ≡ record {
           number = number;
           accept = accept;
           least = least;

@@ -7,7 +7,9 @@ use Rattle.hsm_auth.specs.declared.entry.Granted.{Granted}
 use Rattle.hsm_auth.specs.declared.ledger.Ledger.{Ledger}
 use Rattle.hsm_auth.specs.History.{entry, outcome, IsKnown, IsLegal, StandsFor}
 use Rattle.hsm_rows.specs.declared.settings.Module.{Module}
-use Rattle.hsm_answers.specs.Messages.{Side, host, message_ask, message_answer}
+use Rattle.hsm_answers.specs.Messages.{message_ask, message_answer}
+use Rattle.hsm_auth.specs.declared.activity.Place.{Place}
+use Rattle.hsm_auth.specs.declared.activity.Place.TheVariants.{Host}
 use Rattle.hsm_io.specs.Texts.{Appends, AppendsFront}
 use Rattle.hsm_io.proofs.TextLemmas.{appends_then_front, appends_twice, front_of_more}
 use Rattle.hsm_session.specs.Booking.{entry_of, entries_of, answer_lines, reply_line, reply_of, IsAnswered, IsBooked, BooksAll, BooksFront, BooksSome}
@@ -20,7 +22,7 @@ pub entries_twice : (m : Module) (moment : ℕ) (h : List Entry) (first second :
     → entries_of m moment h (first ++ second) ≡ entries_of m moment h first ++ entries_of m moment (h ++ entries_of m moment h first) second
 entries_twice m moment h [] second = ap (λ (g : List Entry). entries_of m moment g second) (sym (append-nil h))
 entries_twice m moment h (message ∷ first) second =
-    let e = entry_of m host moment h message in
+    let e = entry_of m Host moment h message in
     let next = h ++ e ∷ [] in
     ap (λ (es : List Entry). e ∷ es)
     (entries_twice m moment next first second
@@ -29,15 +31,15 @@ entries_twice m moment h (message ∷ first) second =
 -- one entry for each message
 pub length-entries : (m : Module) (moment : ℕ) (h : List Entry) (messages : List (List ℕ)) → length (entries_of m moment h messages) ≡ length messages
 length-entries m moment h [] = refl
-length-entries m moment h (message ∷ messages) = ap (λ (n : ℕ). suc n) (length-entries m moment (h ++ entry_of m host moment h message ∷ []) messages)
+length-entries m moment h (message ∷ messages) = ap (λ (n : ℕ). suc n) (length-entries m moment (h ++ entry_of m Host moment h message ∷ []) messages)
 
 pub lines_twice : (m : Module) (lane moment : ℕ) (h : List Entry) (first second : List (List ℕ))
     → answer_lines m lane moment h (first ++ second) ≡ answer_lines m lane moment h first ++ answer_lines m lane moment (h ++ entries_of m moment h first) second
 lines_twice m lane moment h [] second = ap (λ (g : List Entry). answer_lines m lane moment g second) (sym (append-nil h))
 lines_twice m lane moment h (message ∷ first) second =
-    let e = entry_of m host moment h message in
+    let e = entry_of m Host moment h message in
     let next = h ++ e ∷ [] in
-    let line = reply_line lane (reply_of m host moment h message) in
+    let line = reply_line lane (reply_of m Host moment h message) in
     ap (λ (text : List ℕ). line ++ text)
     (lines_twice m lane moment next first second
     ∙ ap (λ (g : List Entry). answer_lines m lane moment next first ++ answer_lines m lane moment g second) (after_one h e (entries_of m moment next first)))
@@ -90,7 +92,7 @@ pub still_known : (m : Module) (lane moment : ℕ) (messages : List (List ℕ)) 
 still_known m lane moment messages old new before after books known = (known.0 ++ entries_of m moment known.0 messages, (books known.0 known.1).stands)
 
 -- a message is booked by a step of the ledger
-pub answered : (m : Module) (side : Side) (moment : ℕ) (message reply : List ℕ) (ask : Ask) (granted : Granted) (old new : Ledger)
+pub answered : (m : Module) (side : Place) (moment : ℕ) (message reply : List ℕ) (ask : Ask) (granted : Granted) (old new : Ledger)
     → ask ≡ message_ask m side message
     → ((h : List Entry) → StandsFor old h → granted ≡ outcome h moment ask)
     → ((h : List Entry) (pass : ℕ) → StandsFor old h → StandsFor new (h ++ entry pass moment ask granted ∷ []))
@@ -107,7 +109,7 @@ answered m side moment message reply ask granted old new asks answers stands leg
     }
 
 -- a message that was booked, and a text that was written
-pub books_message : (m : Module) (side : Side) (moment : ℕ) (message reply text : List ℕ) (line : List ℕ → List ℕ) (old new : Ledger) (before after : List ℕ → Type 0) (h : List Entry)
+pub books_message : (m : Module) (side : Place) (moment : ℕ) (message reply text : List ℕ) (line : List ℕ → List ℕ) (old new : Ledger) (before after : List ℕ → Type 0) (h : List Entry)
     → IsAnswered m side moment message old new reply h → text ≡ line reply → Appends before after text
     → IsBooked h (entry_of m side moment h message ∷ []) (line (reply_of m side moment h message)) new before after
 books_message m side moment message reply text line old new before after h a is printed = record {
@@ -118,13 +120,13 @@ books_message m side moment message reply text line old new before after h a is 
 
 -- a host's message is booked, and its answer is printed
 pub books_one : (m : Module) (lane moment : ℕ) (message reply text : List ℕ) (old new : Ledger) (before after : List ℕ → Type 0)
-    → ((h : List Entry) → StandsFor old h → IsAnswered m host moment message old new reply h)
+    → ((h : List Entry) → StandsFor old h → IsAnswered m Host moment message old new reply h)
     → text ≡ reply_line lane reply → Appends before after text
     → BooksAll m lane moment (message ∷ []) old new before after
 books_one m lane moment message reply text old new before after answers is printed = λ h at.
-    let line = reply_line lane (reply_of m host moment h message) in
+    let line = reply_line lane (reply_of m Host moment h message) in
     books_same h _ _ line (answer_lines m lane moment h (message ∷ [])) new before after refl (sym (append-nil line))
-    (books_message m host moment message reply text (reply_line lane) old new before after h (answers h at) is printed)
+    (books_message m Host moment message reply text (reply_line lane) old new before after h (answers h at) is printed)
 
 -- what follows from what a good result promises
 pub on_ok : {A E : Type 0} (r : Result A E) (P Q : Type 0) → OnOk r P → (P → Q) → OnOk r Q
@@ -201,7 +203,7 @@ front_after h more text next ledger before between after b printed = record {
 }
 
 -- a message that was booked, and a part of a text that was written
-pub front_message : (m : Module) (side : Side) (moment : ℕ) (message reply text : List ℕ) (line : List ℕ → List ℕ) (old new : Ledger) (before after : List ℕ → Type 0) (h : List Entry)
+pub front_message : (m : Module) (side : Place) (moment : ℕ) (message reply text : List ℕ) (line : List ℕ → List ℕ) (old new : Ledger) (before after : List ℕ → Type 0) (h : List Entry)
     → IsAnswered m side moment message old new reply h → text ≡ line reply → AppendsFront before after text
     → BooksFront h (entry_of m side moment h message ∷ []) (line (reply_of m side moment h message)) new before after
 front_message m side moment message reply text line old new before after h a is printed = record {
@@ -215,13 +217,13 @@ front_message m side moment message reply text line old new before after h a is 
 
 -- a host's message is booked, and a part of its answer is printed
 pub some_one : (m : Module) (lane moment : ℕ) (message reply text : List ℕ) (old new : Ledger) (before after : List ℕ → Type 0)
-    → ((h : List Entry) → StandsFor old h → IsAnswered m host moment message old new reply h)
+    → ((h : List Entry) → StandsFor old h → IsAnswered m Host moment message old new reply h)
     → text ≡ reply_line lane reply → AppendsFront before after text
     → BooksSome m lane moment (message ∷ []) old new before after
 some_one m lane moment message reply text old new before after answers is printed = λ h at.
-    let line = reply_line lane (reply_of m host moment h message) in
+    let line = reply_line lane (reply_of m Host moment h message) in
     front_same h _ _ line (answer_lines m lane moment h (message ∷ [])) new before after refl (sym (append-nil line))
-    (front_message m host moment message reply text (reply_line lane) old new before after h (answers h at) is printed)
+    (front_message m Host moment message reply text (reply_line lane) old new before after h (answers h at) is printed)
 
 -- messages, and then others from the front
 pub some_more : (m : Module) (lane moment : ℕ) (first second : List (List ℕ)) (old mid new : Ledger) (before between after : List ℕ → Type 0)

@@ -12,15 +12,17 @@ use Rattle.hsm_auth.specs.declared.activity.Activity.{Activity}
 use Rattle.hsm_auth.specs.declared.entry.Ask.TheVariants.{Authorise}
 use Rattle.hsm_auth.specs.History.{outcome}
 use Rattle.hsm_answers.specs.Clear.{Authorises, IsGrantedAt, ShowsClear}
-use Rattle.hsm_answers.specs.Messages.{Side, host, console, message_ask}
+use Rattle.hsm_answers.specs.Messages.{message_ask}
+use Rattle.hsm_auth.specs.declared.activity.Place.{Place}
+use Rattle.hsm_auth.specs.declared.activity.Place.TheVariants as place
 use Rattle.hsm_session.specs.Booking.{entry_of, entries_of}
 use Rattle.hsm_session.specs.Clear.{Brings, HasMessage, IsByOfficers, IsEntryOf, IsGranted}
 use Rattle.hsm_session.specs.Runs.{IsRunOfLine, IsRunOfLines, moment_at}
 use Rattle.hsm_session.specs.Scripts.{Said, Nothing, Moment, Piece, Console}
 
 -- the entry at place k of those that follow the history h is that of a message of which this holds
-record Follows (m : Module) (Is : Side → ℕ → List ℕ → Type 0) (h more : List Entry) (k : ℕ) : Type 0 where
-  side : Side
+record Follows (m : Module) (Is : Place → ℕ → List ℕ → Type 0) (h more : List Entry) (k : ℕ) : Type 0 where
+  side : Place
   moment : ℕ
   message : List ℕ
   is : Is side moment message
@@ -30,19 +32,19 @@ in_rest : (first message : List ℕ) (rest : List (List ℕ)) → Contains rest 
 in_rest first message rest c = (suc c.0, omega (arith, c.1), c.2)
 
 -- a host's messages one after another
-follow : (m : Module) (Is : Side → ℕ → List ℕ → Type 0) (moment : ℕ) (h : List Entry) (messages : List (List ℕ))
-    → ((message : List ℕ) → Contains messages message → Is host moment message)
+follow : (m : Module) (Is : Place → ℕ → List ℕ → Type 0) (moment : ℕ) (h : List Entry) (messages : List (List ℕ))
+    → ((message : List ℕ) → Contains messages message → Is place.Host moment message)
     → (k : ℕ) → k < length (entries_of m moment h messages) → Follows m Is h (entries_of m moment h messages) k
 follow m Is moment h [] all k low = absurd (omega (arith, low))
 follow m Is moment h (message ∷ messages) all zero low = record {
-  side = host;
+  side = place.Host;
   moment = moment;
   message = message;
   is = all message (0, omega arith, refl);
-  entered = ap (λ (g : List Entry). Some (entry_of m host moment g message)) (sym (append-nil h));
+  entered = ap (λ (g : List Entry). Some (entry_of m place.Host moment g message)) (sym (append-nil h));
 }
 follow m Is moment h (message ∷ messages) all (suc k) low =
-    let e = entry_of m host moment h message in
+    let e = entry_of m place.Host moment h message in
     let later = entries_of m moment (h ++ e ∷ []) messages in
     let f = follow m Is moment (h ++ e ∷ []) messages (λ other c. all other (in_rest message other messages c)) k (omega (arith, low)) in
     record {
@@ -54,19 +56,19 @@ follow m Is moment h (message ∷ messages) all (suc k) low =
     }
 
 -- a console's message
-follow_one : (m : Module) (Is : Side → ℕ → List ℕ → Type 0) (moment : ℕ) (h : List Entry) (message : List ℕ) → Is console moment message
-    → (k : ℕ) → k < 1 → Follows m Is h (entry_of m console moment h message ∷ []) k
+follow_one : (m : Module) (Is : Place → ℕ → List ℕ → Type 0) (moment : ℕ) (h : List Entry) (message : List ℕ) → Is place.Console moment message
+    → (k : ℕ) → k < 1 → Follows m Is h (entry_of m place.Console moment h message ∷ []) k
 follow_one m Is moment h message one zero low = record {
-  side = console;
+  side = place.Console;
   moment = moment;
   message = message;
   is = one;
-  entered = ap (λ (g : List Entry). Some (entry_of m console moment g message)) (sym (append-nil h));
+  entered = ap (λ (g : List Entry). Some (entry_of m place.Console moment g message)) (sym (append-nil h));
 }
 follow_one m Is moment h message one (suc k) low = absurd (omega (arith, low))
 
 -- the line brings the message at its moment
-abbrev IsBroughtAt : Module → List Said → Said → Side → ℕ → List ℕ → Type 0
+abbrev IsBroughtAt : Module → List Said → Said → Place → ℕ → List ℕ → Type 0
 IsBroughtAt m earlier line side moment message = (moment ≡ moment_at earlier) × Brings m earlier line side message
 
 -- the entries of a line
@@ -137,12 +139,12 @@ each_message m h earlier (line ∷ later) last text (more, first, rest, t, split
 
 -- every ask for an authorisation is that of both officers' words
 abbrev pub WordsAuthorise : Type 0
-WordsAuthorise = (m : Module) (side : Side) (message : List ℕ) (activity : Activity) (minutes : ℕ)
+WordsAuthorise = (m : Module) (side : Place) (message : List ℕ) (activity : Activity) (minutes : ℕ)
     → message_ask m side message ≡ Authorise activity minutes → Authorises m side message activity minutes
 
 -- an answer that shows a clear key or PIN, at an entry that is answered what the entries before it say, was granted
 abbrev pub ClearGranted : Type 0
-ClearGranted = (m : Module) (side : Side) (message : List ℕ) (h : List Entry) (i : ℕ) (e : Entry)
+ClearGranted = (m : Module) (side : Place) (message : List ℕ) (h : List Entry) (i : ℕ) (e : Entry)
     → slice_get h i ≡ Some e → e.ask ≡ message_ask m side message → e.granted ≡ outcome (take i h) e.moment e.ask
     → (s : ShowsClear m side message e.granted) → IsGrantedAt s.row s.read h i e
 
@@ -158,7 +160,7 @@ by_officers words m h lines last text p i e activity minutes least there asks =
     record { of_message = b; words = words m b.side b.message activity minutes (sym (ap (λ (x : Entry). x.ask) same) ∙ asks) }
 
 pub granted_before : WordsAuthorise → ClearGranted → (m : Module) (h : List Entry) (lines : List Said) (last : List Entry) (text : List ℕ) → IsRunOfLines m h [] lines last text
-    → (i : ℕ) (e : Entry) (side : Side) (moment : ℕ) (message : List ℕ) → slice_get last i ≡ Some e → IsEntryOf m last i side moment message
+    → (i : ℕ) (e : Entry) (side : Place) (moment : ℕ) (message : List ℕ) → slice_get last i ≡ Some e → IsEntryOf m last i side moment message
     → (s : ShowsClear m side message e.granted) → IsGranted m lines (length h) last i e s.row s.read
 granted_before words granted m h lines last text p i e side moment message there entered s =
     let same = same_entry e (entry_of m side moment (take i last) message) (slice_get last i) there entered in

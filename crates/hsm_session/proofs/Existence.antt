@@ -3,7 +3,7 @@ use Rattle.std.proofs.Common.{◌≡◌, ℕ, zero, suc, ◌+◌, List, [], ◌�
 use Rattle.std.proofs.lemmas.Grind.{flat_map-append}
 use Rattle.hsm_frame.specs.Frames.{Frames, StreamEnd, frame}
 use Rattle.hsm_frame.specs.Laws.{HasReading}
-use Rattle.hsm_answers.specs.Messages.{console}
+use Rattle.hsm_auth.specs.declared.activity.Place.TheVariants as place
 use Rattle.hsm_auth.specs.declared.entry.Entry.{Entry}
 use Rattle.hsm_rows.specs.declared.settings.Module.{Module}
 use Rattle.hsm_session.specs.Plans.{least_length}
@@ -37,7 +37,7 @@ tells_exist read m h earlier (Piece lane bytes) bring =
     (frames_more least (got lane earlier) bytes before.0 after.0 before.1 after.1 before.2 after.2) in
     (entries_of m (moment_at earlier) h after.0, piece_text m lane (moment_at earlier) h before.1 after.0 after.1, (before.0, before.1, after.0, after.1, before.2, frames, refl, refl))
 tells_exist read m h earlier (Console text) bring =
-    (entry_of m console (moment_at earlier) h text ∷ [], console_line (reply_of m console (moment_at earlier) h text), (refl, refl))
+    (entry_of m place.Console (moment_at earlier) h text ∷ [], console_line (reply_of m place.Console (moment_at earlier) h text), (refl, refl))
 
 -- the entries that are booked after a history, and what is printed
 pub record Exists (m : Module) (h : List Entry) (earlier later : List Said) : Type 0 where

@@ -47,7 +47,9 @@ use Rattle.hsm_answers.specs.Pins.{block_fault_code, digits_at, fill_length, for
 use Rattle.hsm_answers.specs.Values.{word_count}
 use Rattle.hsm_answers.specs.Checks.{check_after, check_before, checks_fault, compared_fault, data_fault}
 use Rattle.hsm_answers.specs.Asks.{ask_of, ask_read, asked_words, authorise, cancel, empty_ask, row_ask, words_hold}
-use Rattle.hsm_answers.specs.Messages.{Side, host, console, ask_by, command_of, enabled_row, message_ask, rows_of, text_after}
+use Rattle.hsm_answers.specs.Messages.{ask_by, command_of, enabled_row, message_ask, rows_of, text_after}
+use Rattle.hsm_auth.specs.declared.activity.Place.{Place}
+use Rattle.hsm_auth.specs.declared.activity.Place.TheVariants as place
 use Rattle.hsm_answers.proofs.ClearAnswers.{enabled_among}
 use Rattle.hsm_session.specs.declared.script.ScriptEnd.{ScriptEnd}
 use Rattle.hsm_session.specs.Booking.{entry_of}
@@ -189,9 +191,9 @@ console_few : AllByRecursion FewWords console_rows
 unfolding console_rows row_A row_C row_VA row_Q row_LOG row_GC row_FK rules_A rules_C rules_LOG rules_GC rules_FK
 console_few = (none row_A refl, (none row_C refl, (none row_VA refl, (none row_Q refl, (none row_LOG refl, (by_parts row_GC 1 refl, (none row_FK refl, tt)))))))
 
-side_few : TextsAre → (side : Side) → AllByRecursion FewWords (rows_of side)
-side_few are host = host_few are
-side_few are console = console_few
+side_few : TextsAre → (side : Place) → AllByRecursion FewWords (rows_of side)
+side_few are place.Host = host_few are
+side_few are place.Console = console_few
 
 -- the words of an ask
 abbrev words_of : Ask → ℕ
@@ -230,7 +232,7 @@ read_few m row text (Ok r) few is = go (is_some (check_before m (rules_of row) r
     go true = omega arith
     go false = kind_few m (rules_of row) r (rules_of row).ask (few m text r is)
 
-row_few : TextsAre → (m : Module) (side : Side) (message : List ℕ) (found : Option RowShape) → enabled_row m side (command_of m side message) ≡ found
+row_few : TextsAre → (m : Module) (side : Place) (message : List ℕ) (found : Option RowShape) → enabled_row m side (command_of m side message) ≡ found
     → words_of (ask_by m side message found) ≤ 12
 unfolding ask_of
 row_few are m side message None is = omega arith
@@ -238,7 +240,7 @@ row_few are m side message (Some row) is =
     let text = text_after m side message in
     read_few m row text (reading row text) (enabled_among FewWords m side (command_of m side message) row (side_few are side) is) refl
 
-message_few : TextsAre → (m : Module) (side : Side) (message : List ℕ) → words_of (message_ask m side message) ≤ 12
+message_few : TextsAre → (m : Module) (side : Place) (message : List ℕ) → words_of (message_ask m side message) ≤ 12
 unfolding message_ask
 message_few are m side message = row_few are m side message (enabled_row m side (command_of m side message)) refl
 
@@ -255,7 +257,7 @@ minutes_most text holds =
     ]
 
 -- what each message asks is within the limits of a ledger
-pub can_ask : WordsAuthorise → TextsAre → MinutesStand → (m : Module) (side : Side) (message : List ℕ) → CanAsk (message_ask m side message)
+pub can_ask : WordsAuthorise → TextsAre → MinutesStand → (m : Module) (side : Place) (message : List ℕ) → CanAsk (message_ask m side message)
 can_ask words are stand m side message = go (message_ask m side message) refl
   where
     go : (asked : Ask) → message_ask m side message ≡ asked → CanAsk asked

@@ -13,14 +13,13 @@ use Rattle.hsm_auth.specs.Own.{own}
 use Rattle.hsm_desk.specs.Kin.{Spans, first_pair}
 use Rattle.hsm_desk.specs.Passes.{PassView, Books, Makes, OwnBooked, Sound, number}
 use Rattle.hsm_answers.specs.Clear.{Authorises}
-use Rattle.hsm_answers.specs.Messages.{Side, host, message_ask}
+use Rattle.hsm_answers.specs.Messages.{message_ask}
 use Rattle.hsm_io.specs.Moments.{tick, after_now, after_calls}
 use Rattle.hsm_rows.specs.declared.settings.Module.{Module}
 use Rattle.hsm_auth.specs.declared.activity.Place.{Place}
 use Rattle.hsm_auth.specs.declared.activity.Place.TheVariants.{Host}
 use Rattle.hsm_session.specs.declared.serving.Count.{Count}
 use Rattle.hsm_session.specs.Connections.{AskClock, AuthoriseNothing, first_place, last_place, last_moment, asks_authorisation}
-use Rattle.hsm_session.specs.Plans.{side_of}
 use Rattle.hsm_session.specs.Serving.{Counts, kept_first, one_more, no_entry}
 
 -- what holds at each place of a list, and of one more item
@@ -160,12 +159,12 @@ counts_more count entries placed c = record {
 
 -- a host's message asks for no authorisation
 abbrev pub WordsAuthorise : Type 0
-WordsAuthorise = (m : Module) (side : Side) (message : List ℕ) (activity : Activity) (minutes : ℕ)
+WordsAuthorise = (m : Module) (side : Place) (message : List ℕ) (activity : Activity) (minutes : ℕ)
     → message_ask m side message ≡ Authorise activity minutes → Authorises m side message activity minutes
 
-no_words : (m : Module) (message : List ℕ) → WordsAuthorise → (ask : Ask) → message_ask m host message ≡ ask → asks_authorisation ask ≡ false
+no_words : (m : Module) (message : List ℕ) → WordsAuthorise → (ask : Ask) → message_ask m Host message ≡ ask → asks_authorisation ask ≡ false
 no_words m message words (Use needs drawn) is = refl
-no_words m message words (Authorise activity minutes) is = let a = (words m host message activity minutes is).of_console in absurd (cc)
+no_words m message words (Authorise activity minutes) is = let a = (words m Host message activity minutes is).of_console in absurd (cc)
 no_words m message words (Cancel activity) is = refl
 no_words m message words CancelAll is = refl
 no_words m message words Look is = refl
@@ -175,7 +174,7 @@ pub hosts_none : AuthoriseNothing []
 hosts_none = λ i placed at. absurd (cc)
 
 pub hosts_more : (m : Module) (kind : Place) (message : List ℕ) (entries : List (ℕ × Entry)) (placed : ℕ × Entry) → WordsAuthorise
-    → placed.1.ask ≡ message_ask m (side_of kind) message → (kind ≡ Host → AuthoriseNothing entries) → kind ≡ Host → AuthoriseNothing (entries ++ placed ∷ [])
+    → placed.1.ask ≡ message_ask m kind message → (kind ≡ Host → AuthoriseNothing entries) → kind ≡ Host → AuthoriseNothing (entries ++ placed ∷ [])
 hosts_more m kind message entries placed words asked before is =
-    let of_host : message_ask m host message ≡ placed.1.ask = ap (λ (k : Place). message_ask m (side_of k) message) (sym is) ∙ sym asked in
+    let of_host : message_ask m Host message ≡ placed.1.ask = ap (λ (k : Place). message_ask m k message) (sym is) ∙ sym asked in
     get_push (λ i (p : ℕ × Entry). asks_authorisation p.1.ask ≡ false) entries placed (before is) (no_words m message words placed.1.ask of_host)

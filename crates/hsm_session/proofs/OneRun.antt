@@ -8,7 +8,7 @@ use Rattle.hsm_auth.specs.declared.entry.Entry.{Entry}
 use Rattle.hsm_rows.specs.declared.settings.Module.{Module}
 use Rattle.hsm_session.specs.declared.script.ScriptEnd.{ScriptEnd}
 use Rattle.hsm_session.specs.Plans.{least_length}
-use Rattle.hsm_answers.specs.Messages.{console}
+use Rattle.hsm_auth.specs.declared.activity.Place.TheVariants as place
 use Rattle.hsm_session.specs.Booking.{console_line, entries_of, entry_of, reply_of}
 use Rattle.hsm_session.specs.Scripts.{Said, Nothing, Moment, Piece, Console, script_of}
 use Rattle.hsm_session.specs.Lanes.{BringBytes}
@@ -64,8 +64,8 @@ same_line only m h earlier before (Piece lane bytes) more others text output a (
     )
 same_line only m h earlier before (Console message) more others text output a t s =
     let now = a.moment in (
-      t.0 ∙ ap (λ (moment : ℕ). entry_of m console moment h message ∷ []) now ∙ sym s.0,
-      t.1 ∙ ap (λ (moment : ℕ). console_line (reply_of m console moment h message)) now ∙ sym s.1,
+      t.0 ∙ ap (λ (moment : ℕ). entry_of m place.Console moment h message ∷ []) now ∙ sym s.0,
+      t.1 ∙ ap (λ (moment : ℕ). console_line (reply_of m place.Console moment h message)) now ∙ sym s.1,
     )
 
 -- the later lines print one text, after one history

@@ -8,7 +8,7 @@ use Rattle.hsm_frame.specs.Frames.{Frames}
 use Rattle.hsm_auth.specs.declared.entry.Entry.{Entry}
 use Rattle.hsm_auth.specs.declared.ledger.Ledger.{Ledger}
 use Rattle.hsm_auth.specs.History.{StandsFor}
-use Rattle.hsm_answers.specs.Messages.{console}
+use Rattle.hsm_auth.specs.declared.activity.Place.TheVariants as place
 use Rattle.hsm_rows.specs.declared.settings.Module.{Module}
 use Rattle.hsm_session.specs.declared.lane.ScriptLane.{ScriptLane}
 use Rattle.hsm_session.specs.declared.run.Run.{Run}
@@ -70,17 +70,17 @@ takes_moment m old new moment was before same set_to kept = record {
 pub takes_console : (m : Module) (old new : Run) (text : List ℕ) (was is : Ledger) (before after : List ℕ → Type 0)
     → new.lanes.items ≡ old.lanes.items → new.moment ≡ old.moment → new.entries ≡ old.entries + 1
     → ((h : List Entry) → StandsFor was h
-    → IsBooked h (entry_of m console old.moment h text ∷ []) (console_line (reply_of m console old.moment h text)) is before after)
+    → IsBooked h (entry_of m place.Console old.moment h text ∷ []) (console_line (reply_of m place.Console old.moment h text)) is before after)
     → TakesLine m old new (Console text) was is before after
 takes_console m old new text was is before after same moment one books = record {
   spent = omega (arith, one, ap all_held same);
   answers = λ earlier at. (
     at_quiet m old new earlier (Console text) at same (λ lane. refl) (moment ∙ at.moment ∙ sym (moment_more 0 earlier (Console text))),
     λ h stands. (
-      entry_of m console (moment_at earlier) h text ∷ [],
-      console_line (reply_of m console (moment_at earlier) h text),
+      entry_of m place.Console (moment_at earlier) h text ∷ [],
+      console_line (reply_of m place.Console (moment_at earlier) h text),
       (refl, refl),
-      subst (λ (now : ℕ). IsBooked h (entry_of m console now h text ∷ []) (console_line (reply_of m console now h text)) is before after) at.moment (books h stands),
+      subst (λ (now : ℕ). IsBooked h (entry_of m place.Console now h text ∷ []) (console_line (reply_of m place.Console now h text)) is before after) at.moment (books h stands),
       one,
     ),
   );
@@ -201,11 +201,11 @@ stops_at_piece m old lane place piece was is before after here stops = λ earlie
 -- a console text whose answer was not wholly written
 pub stops_at_console : (m : Module) (old : Run) (text : List ℕ) (was is : Ledger) (before after : List ℕ → Type 0)
     → ((h : List Entry) → StandsFor was h
-    → BooksFront h (entry_of m console old.moment h text ∷ []) (console_line (reply_of m console old.moment h text)) is before after)
+    → BooksFront h (entry_of m place.Console old.moment h text ∷ []) (console_line (reply_of m place.Console old.moment h text)) is before after)
     → StopsLine m old (Console text) was is before after
 stops_at_console m old text was is before after books = λ earlier bring at h stands. (
-  entry_of m console (moment_at earlier) h text ∷ [],
-  console_line (reply_of m console (moment_at earlier) h text),
+  entry_of m place.Console (moment_at earlier) h text ∷ [],
+  console_line (reply_of m place.Console (moment_at earlier) h text),
   (refl, refl),
-  subst (λ (now : ℕ). BooksFront h (entry_of m console now h text ∷ []) (console_line (reply_of m console now h text)) is before after) at.moment (books h stands),
+  subst (λ (now : ℕ). BooksFront h (entry_of m place.Console now h text ∷ []) (console_line (reply_of m place.Console now h text)) is before after) at.moment (books h stands),
 )

@@ -8,7 +8,7 @@ use Rattle.std.proofs.lemmas.List.Elements.{All-append}
 use Rattle.hsm_auth.specs.declared.entry.Ask.{Ask}
 use Rattle.hsm_auth.specs.declared.entry.Granted.{Granted}
 use Rattle.hsm_auth.specs.declared.entry.Entry.{Entry}
-use Rattle.hsm_answers.specs.Messages.{Side, message_answer, message_ask}
+use Rattle.hsm_answers.specs.Messages.{message_answer, message_ask}
 use Rattle.hsm_desk.specs.Passes.{Books, OwnBooked, Sound}
 use Rattle.hsm_frame.specs.Calls.{IsNotYet}
 use Rattle.hsm_frame.specs.Frames.{Frames, IsMessage, IsShort, IsTail, StreamEnd, Whole, Part, frame}
@@ -24,7 +24,7 @@ use Rattle.hsm_session.specs.declared.serving.ConnEnd.TheVariants.{Clean, Cut, S
 use Rattle.hsm_session.specs.declared.serving.Count.{Count}
 use Rattle.hsm_session.specs.Connections.{Hears, IsEntryFor, Leaves, WritesAnswers, Scene, framed_answers, scene}
 use Rattle.hsm_session.specs.Lanes.{AreBytes, IsWaiting}
-use Rattle.hsm_session.specs.Plans.{least_for, side_of}
+use Rattle.hsm_session.specs.Plans.{least_for}
 use Rattle.hsm_session.specs.Serving.{IsServing, Holding, EndsServing, Sends, SendsFront, Steps, holding, no_entry, one_more}
 use Rattle.hsm_session.proofs.Answering.{each_more}
 use Rattle.hsm_session.proofs.Gating.{gate_more, gate_none}
@@ -86,7 +86,7 @@ frames_push messages message rest =
     (ap (λ (last : List ℕ). flat_map frame messages ++ last) (sym (append-nil (frame message))) ∙ sym (flat_map-append frame messages (message ∷ [])))
 
 -- the answers of the first messages, and of one more
-answers_push : (m : Module) (side : Side) (messages : List (List ℕ)) (entries : List (ℕ × Entry)) (message : List ℕ) (placed : ℕ × Entry)
+answers_push : (m : Module) (side : Place) (messages : List (List ℕ)) (entries : List (ℕ × Entry)) (message : List ℕ) (placed : ℕ × Entry)
     → AllZip (IsEntryFor m side) messages entries
     → framed_answers m side (messages ++ message ∷ []) (entries ++ placed ∷ []) ≡ framed_answers m side messages entries ++ frame (message_answer m side message placed.1.granted)
 answers_push m side [] [] message placed all = append-nil (frame (message_answer m side message placed.1.granted))
@@ -128,7 +128,7 @@ waits_at_start least held none = record {
 -- a message is booked, and its answer is gathered
 pub going_books : (m : Module) (kind : Place) (lane : ℕ) (start old new : Scene) (between : Option (List gates.GateCall))
     (message rest out reply : List ℕ) (count : Count) (ask : Ask) (granted : Granted) (place : ℕ) → WordsAuthorise
-    → IsMessage (least_for m kind) message → ask ≡ message_ask m (side_of kind) message → reply ≡ message_answer m (side_of kind) message granted
+    → IsMessage (least_for m kind) message → ask ≡ message_ask m kind message → reply ≡ message_answer m kind message granted
     → Books old.pass new.pass new.last ask granted place → OwnBooked old.pass new.pass new.last ask granted place → Sound new.pass
     → ((c : List ℕ) → old.moments ≡ Some c → (new.last ≡ tick c 0) × (new.moments ≡ Some (after_now c)))
     → ((c : List gates.GateCall) → old.calls ≡ Some c → between ≡ Some (c ++ gates.before lane count.messages ∷ []))
@@ -142,7 +142,7 @@ going_books m kind lane start old new between message rest out reply count ask g
       messages = g.messages ++ message ∷ [];
       entries = g.entries ++ placed ∷ [];
       made = makes_more start.pass old.pass new.pass g.entries new.last ask granted place g.made books own sound;
-      each = zip_push (IsEntryFor m (side_of kind)) g.messages g.entries message placed g.each asked;
+      each = zip_push (IsEntryFor m kind) g.messages g.entries message placed g.each asked;
       valid = each_more (least_for m kind) g.messages message g.valid valid;
       bytes = bytes_right (frame message) rest g.bytes;
       clock = clock_more start.last old.last new.last start.moments old.moments new.moments g.entries placed g.clock refl ticks;
@@ -151,8 +151,8 @@ going_books m kind lane start old new between message rest out reply count ask g
       hosts = hosts_more m kind message g.entries placed words asked g.hosts;
       told = λ s is.
           let t = g.told s is in
-          let texts : framed_answers m (side_of kind) (g.messages ++ message ∷ []) (g.entries ++ placed ∷ []) ≡ t.2 ++ (out ++ frame reply) =
-          answers_push m (side_of kind) g.messages g.entries message placed g.each
+          let texts : framed_answers m kind (g.messages ++ message ∷ []) (g.entries ++ placed ∷ []) ≡ t.2 ++ (out ++ frame reply) =
+          answers_push m kind g.messages g.entries message placed g.each
           ∙ (λ i. t.4 i ++ frame (sym answered i))
           ∙ append_assoc t.2 out (frame reply) in
           (t.0, same ∙ t.1, t.2, subst (λ (heard : List ℕ). Exchanges s t.0 heard t.2) (frames_push g.messages message rest) t.3, texts);
@@ -232,10 +232,10 @@ going_reads m kind lane start now traffic held out piece count are reads g = rec
 record Passed (m : Module) (kind : Place) (s t : Traffic) (held out : List ℕ) (messages : List (List ℕ)) (entries : List (ℕ × Entry)) : Type 0 where
   bytes : s.left ≡ t.was_read ++ t.left
   heard : t.was_read ≡ flat_map frame messages ++ held
-  said : framed_answers m (side_of kind) messages entries ≡ t.written ++ out
+  said : framed_answers m kind messages entries ≡ t.written ++ out
 
 passed : (m : Module) (kind : Place) (s t : Traffic) (held out said : List ℕ) (messages : List (List ℕ)) (entries : List (ℕ × Entry))
-    → s.was_read ≡ [] → s.written ≡ [] → Exchanges s t (flat_map frame messages ++ held) said → framed_answers m (side_of kind) messages entries ≡ said ++ out
+    → s.was_read ≡ [] → s.written ≡ [] → Exchanges s t (flat_map frame messages ++ held) said → framed_answers m kind messages entries ≡ said ++ out
     → Passed m kind s t held out messages entries
 passed m kind s t held out said messages entries unread unsaid e texts =
     let heard : t.was_read ≡ flat_map frame messages ++ held = e.was_read ∙ ap (λ (x : List ℕ). x ++ (flat_map frame messages ++ held)) unread in
@@ -272,7 +272,7 @@ over m kind lane start now held out count ended closes silent g = record {
         record {
           bytes = p.bytes;
           hears = closes.hears t.0.was_read g.messages g.bytes g.valid p.heard;
-          says = closes.says t.0.written (framed_answers m (side_of kind) g.messages g.entries) p.said;
+          says = closes.says t.0.written (framed_answers m kind g.messages g.entries) p.said;
           leaves = closes.leaves t.0 t.1;
         },
       );

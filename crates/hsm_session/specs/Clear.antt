@@ -7,7 +7,8 @@ use Rattle.hsm_rows.specs.declared.settings.Module.{Module}
 use Rattle.hsm_rows.specs.Table.{RowShape}
 use Rattle.hsm_rows.specs.Reading.{ReadText}
 use Rattle.hsm_answers.specs.Clear.{Authorises, IsGrantedAt}
-use Rattle.hsm_answers.specs.Messages.{Side, host, console}
+use Rattle.hsm_auth.specs.declared.activity.Place.{Place}
+use Rattle.hsm_auth.specs.declared.activity.Place.TheVariants as place
 use Rattle.hsm_session.specs.Booking.{entry_of}
 use Rattle.hsm_session.specs.Plans.{least_length}
 use Rattle.hsm_session.specs.Runs.{got, moment_at}
@@ -15,19 +16,19 @@ use Rattle.hsm_session.specs.Scripts.{Said, Nothing, Moment, Piece, Console}
 
 -- A line that follows the earlier ones brings this message: a text of the console is one message, and a piece brings the messages of
 -- all bytes that its lane got up to it that were not there before it.
-abbrev pub Brings : Module → List Said → Said → Side → List ℕ → Type 0
+abbrev pub Brings : Module → List Said → Said → Place → List ℕ → Type 0
 Brings m earlier Nothing side message = ⊥
 Brings m earlier (Moment moment) side message = ⊥
 Brings m earlier (Piece lane bytes) side message =
-    (side ≡ host)
+    (side ≡ place.Host)
     × ((messages : List (List ℕ)) × (before : StreamEnd) × (new : List (List ℕ)) × (after : StreamEnd)
     × Frames (least_length m) (got lane earlier) messages before
     × Frames (least_length m) (got lane (earlier ++ Piece lane bytes ∷ [])) (messages ++ new) after
     × Contains new message)
-Brings m earlier (Console text) side message = (side ≡ console) × (message ≡ text)
+Brings m earlier (Console text) side message = (side ≡ place.Console) × (message ≡ text)
 
 -- The message is one of the script: a line brings it, and the moment is the one at that line.
-pub record IsSaidBy (m : Module) (lines : List Said) (side : Side) (moment : ℕ) (message : List ℕ) : Type 0 where
+pub record IsSaidBy (m : Module) (lines : List Said) (side : Place) (moment : ℕ) (message : List ℕ) : Type 0 where
   pub earlier : List Said
   pub line : Said
   pub later : List Said
@@ -36,12 +37,12 @@ pub record IsSaidBy (m : Module) (lines : List Said) (side : Side) (moment : ℕ
   pub brings : Brings m earlier line side message
 
 -- the entry at place i of the history is that of the message of this side at the moment, after the entries before it
-abbrev pub IsEntryOf : Module → List Entry → ℕ → Side → ℕ → List ℕ → Type 0
+abbrev pub IsEntryOf : Module → List Entry → ℕ → Place → ℕ → List ℕ → Type 0
 IsEntryOf m history i side moment message = slice_get history i ≡ Some (entry_of m side moment (take i history) message)
 
 -- the entry at place i is that of a message of the script
 pub record HasMessage (m : Module) (lines : List Said) (history : List Entry) (i : ℕ) : Type 0 where
-  pub side : Side
+  pub side : Place
   pub moment : ℕ
   pub message : List ℕ
   pub said : IsSaidBy m lines side moment message

@@ -4,7 +4,7 @@ use Rattle.std.specs.List.{AllZip}
 use Rattle.hsm_auth.specs.declared.entry.Ask.{Ask}
 use Rattle.hsm_auth.specs.declared.entry.Ask.TheVariants.{Use, Authorise, Cancel, CancelAll, Look, Recent}
 use Rattle.hsm_auth.specs.declared.entry.Entry.{Entry}
-use Rattle.hsm_answers.specs.Messages.{Side, message_ask, message_answer}
+use Rattle.hsm_answers.specs.Messages.{message_ask, message_answer}
 use Rattle.hsm_desk.specs.Passes.{PassView, Makes}
 use Rattle.hsm_frame.specs.Frames.{Frames, frame, StreamEnd, Whole, Part}
 use Rattle.hsm_frame.specs.Frames as stream
@@ -18,7 +18,7 @@ use Rattle.hsm_auth.specs.declared.activity.Place.TheVariants.{Host}
 use Rattle.hsm_session.specs.declared.serving.ConnEnd.{ConnEnd}
 use Rattle.hsm_session.specs.declared.serving.ConnEnd.TheVariants.{Clean, Cut, Short, ReadFault, WriteFault}
 use Rattle.hsm_session.specs.declared.serving.Report.{Report}
-use Rattle.hsm_session.specs.Plans.{least_for, side_of}
+use Rattle.hsm_session.specs.Plans.{least_for}
 
 -- What a lane and its connection show at one time: the pass, the moment that the clock gave last, and, where told, the
 -- moments to come, the calls that the gate got, and what passed over the link.
@@ -33,11 +33,11 @@ abbrev pub scene : PassView → ℕ → Option (List ℕ) → Option (List GateC
 scene pass last moments calls traffic = record { pass = pass; last = last; moments = moments; calls = calls; traffic = traffic }
 
 -- the entry is that of the message: it has its ask
-abbrev pub IsEntryFor : Module → Side → List ℕ → ℕ × Entry → Type 0
+abbrev pub IsEntryFor : Module → Place → List ℕ → ℕ × Entry → Type 0
 IsEntryFor m side message placed = placed.1.ask ≡ message_ask m side message
 
 -- the framed answers of the messages, each at its own entry
-abbrev pub framed_answers : Module → Side → List (List ℕ) → List (ℕ × Entry) → List ℕ
+abbrev pub framed_answers : Module → Place → List (List ℕ) → List (ℕ × Entry) → List ℕ
 framed_answers m side [] entries = []
 framed_answers m side (message ∷ messages) [] = []
 framed_answers m side (message ∷ messages) (placed ∷ entries) =
@@ -105,7 +105,7 @@ Leaves left WriteFault = Unit {0}
 pub record Talks (m : Module) (kind : Place) (before after : Traffic) (messages : List (List ℕ)) (entries : List (ℕ × Entry)) (end : ConnEnd) : Type 0 where
   pub bytes : before.left ≡ after.was_read ++ after.left
   pub hears : Hears (least_for m kind) after.was_read messages end
-  pub says : WritesAnswers after.written (framed_answers m (side_of kind) messages entries) end
+  pub says : WritesAnswers after.written (framed_answers m kind messages entries) end
   pub leaves : Leaves after.left end
 
 -- the place of the first of the entries
@@ -131,7 +131,7 @@ pub record Serves (m : Module) (kind : Place) (lane : ℕ) (before after : Scene
   pub messages : List (List ℕ)
   pub entries : List (ℕ × Entry)
   pub made : Makes before.pass after.pass entries
-  pub each : AllZip (IsEntryFor m (side_of kind)) messages entries
+  pub each : AllZip (IsEntryFor m kind) messages entries
   pub clock : AskClock before.last after.last before.moments after.moments entries
   pub gate : AskGate lane before.calls after.calls entries
   pub reported : Reports report entries

@@ -4,7 +4,7 @@ use Rattle.hsm_auth.specs.declared.entry.Ask.{Ask}
 use Rattle.hsm_rows.specs.declared.settings.Module.{Module}
 use Rattle.hsm_rows.specs.Table.{RowShape}
 use Rattle.hsm_answers.specs.Asks.{empty_ask}
-use Rattle.hsm_answers.specs.Messages.{Side, host, console, command_of, text_after, enabled_row}
+use Rattle.hsm_answers.specs.Messages.{command_of, text_after, enabled_row}
 use Rattle.hsm_keycmd.specs.Plans as key
 use Rattle.hsm_pincmd.specs.Plans as pin
 use Rattle.hsm_datacmd.specs.Plans as held
@@ -14,11 +14,6 @@ use Rattle.hsm_auth.specs.declared.activity.Place.TheVariants.{Host, Console}
 use Rattle.hsm_session.specs.declared.plans.Planned.{Planned}
 use Rattle.hsm_session.specs.declared.plans.Planned.TheVariants as planned
 use Rattle.hsm_session.specs.declared.plans.Plan.{Plan}
-
--- the side of the command table that answers
-abbrev pub side_of : Place → Side
-side_of Host = host
-side_of Console = console
 
 -- the least length of a host's message: a header and a command code
 abbrev pub least_length : Module → ℕ
@@ -74,7 +69,7 @@ IsOwnPlan m (planned.Data plan) = held.IsPlanOf m plan
 IsOwnPlan m (planned.Console plan) = officers.IsPlanOf m plan
 
 -- the plan of a message: of the row of its command, if there is one, and of what follows the command
-pub record IsPlanOfMessage (m : Module) (side : Side) (message : List ℕ) (planned : Planned) : Type 0 where
+pub record IsPlanOfMessage (m : Module) (side : Place) (message : List ℕ) (planned : Planned) : Type 0 where
   pub row : planned_row planned ≡ enabled_row m side (command_of m side message)
   pub text : (row : RowShape) → planned_row planned ≡ Some row → planned_text planned ≡ text_after m side message
   pub own : IsOwnPlan m planned
@@ -83,4 +78,4 @@ pub record IsPlanOfMessage (m : Module) (side : Side) (message : List ℕ) (plan
 pub record IsPlanOf (m : Module) (plan : Plan) : Type 0 where
   pub least : least_for m (plan_kind plan) ≤ length (plan_message plan)
   pub most : length (plan_message plan) ≤ 65535
-  pub planned : IsPlanOfMessage m (side_of (plan_kind plan)) (plan_message plan) plan.planned
+  pub planned : IsPlanOfMessage m (plan_kind plan) (plan_message plan) plan.planned

@@ -3,7 +3,7 @@ use Rattle.std.specs.Prelude.{◌+◌, ◌≡◌, ◌==◌, ℕ, Bool, true, fal
 use Rattle.hsm_auth.specs.declared.entry.Entry.{Entry}
 use Rattle.hsm_auth.specs.declared.ledger.Ledger.{Ledger}
 use Rattle.hsm_auth.specs.History.{IsLegal, StandsFor}
-use Rattle.hsm_answers.specs.Messages.{console}
+use Rattle.hsm_auth.specs.declared.activity.Place.TheVariants as place
 use Rattle.hsm_frame.specs.Frames.{StreamEnd, Whole, Part, Short, Frames}
 use Rattle.hsm_io.specs.Outside.{Rose}
 use Rattle.hsm_io.specs.Texts.{Appends, AppendsFront, Stays}
@@ -80,8 +80,8 @@ IsRunOfLine m h earlier (Piece lane bytes) more text =
     × (more ≡ entries_of m (moment_at earlier) h new)
     × (text ≡ piece_text m lane (moment_at earlier) h before new after)
 IsRunOfLine m h earlier (Console message) more text =
-    (more ≡ entry_of m console (moment_at earlier) h message ∷ [])
-    × (text ≡ console_line (reply_of m console (moment_at earlier) h message))
+    (more ≡ entry_of m place.Console (moment_at earlier) h message ∷ [])
+    × (text ≡ console_line (reply_of m place.Console (moment_at earlier) h message))
 
 -- What is printed for the later lines, after the history h and the lines before them, and the history then.
 abbrev pub IsRunOfLines : Module → List Entry → List Said → List Said → List Entry → List ℕ → Type 0

@@ -13,7 +13,7 @@ use Rattle.hsm_session.specs.declared.serving.Count.{Count}
 use Rattle.hsm_session.specs.declared.serving.Report.{Report}
 use Rattle.hsm_session.specs.Connections.{AskClock, AskGate, AuthoriseNothing, EndCause, IsEntryFor, Scene, Serves, first_place, framed_answers, last_place}
 use Rattle.hsm_session.specs.Lanes.{AreBytes, IsWaiting}
-use Rattle.hsm_session.specs.Plans.{least_for, side_of}
+use Rattle.hsm_session.specs.Plans.{least_for}
 
 -- A part from the front of the text was written, and this is the rest.
 abbrev pub Sends : Option Traffic → Option Traffic → List ℕ → List ℕ → Type 0
@@ -59,7 +59,7 @@ pub record IsServing (m : Module) (kind : Place) (lane : ℕ) (start now : Scene
   pub messages : List (List ℕ)
   pub entries : List (ℕ × Entry)
   pub made : Makes start.pass now.pass entries
-  pub each : AllZip (IsEntryFor m (side_of kind)) messages entries
+  pub each : AllZip (IsEntryFor m kind) messages entries
   pub valid : AllByRecursion (IsMessage (least_for m kind)) messages
   pub bytes : AreBytes h.bytes
   pub clock : AskClock start.last now.last start.moments now.moments entries
@@ -67,7 +67,7 @@ pub record IsServing (m : Module) (kind : Place) (lane : ℕ) (start now : Scene
   pub counted : Counts h.count entries
   pub hosts : kind ≡ Host → AuthoriseNothing entries
   pub told : (s : Traffic) → start.traffic ≡ Some s → (t : Traffic) × (now.traffic ≡ Some t) × (said : List ℕ)
-      × Exchanges s t (flat_map frame messages ++ h.bytes) said × (framed_answers m (side_of kind) messages entries ≡ said ++ h.out)
+      × Exchanges s t (flat_map frame messages ++ h.bytes) said × (framed_answers m kind messages entries ≡ said ++ h.out)
 
 -- the report of a connection that ended so
 abbrev pub report_of : Count → ConnEnd → Report

@@ -6,7 +6,7 @@ ghost use Rattle.hsm_auth.specs.declared.entry.Ask.TheVariants.{Authorise};
 ghost use Rattle.hsm_auth.specs.declared.entry.Entry.{Entry};
 ghost use Rattle.hsm_rows.specs.declared.settings.Module.{Module};
 ghost use Rattle.hsm_answers.specs.Clear.{ShowsClear};
-ghost use Rattle.hsm_answers.specs.Messages.{Side};
+ghost use Rattle.hsm_auth.specs.declared.activity.Place.{Place};
 ghost use Rattle.hsm_session.specs.declared.script.ScriptEnd.{ScriptEnd};
 ghost use Rattle.hsm_session.specs.Clear.{HasMessage, IsByOfficers, IsEntryOf, IsGranted};
 ghost use Rattle.hsm_session.specs.Runs.{IsRunOf};
@@ -26,7 +26,7 @@ pub fn clear_in_runs()
         → IsRunOf m h lines last text over → (i : ℕ) (e : Entry) (activity : Activity) (minutes : ℕ) → length h ≤ i
         → slice_get last i ≡ Some e → e.ask ≡ Authorise activity minutes → IsByOfficers m lines last i activity minutes }
     ensures clear { (m : Module) (h : List Entry) (lines : List Said) (last : List Entry) (text : List ℕ) (over : ScriptEnd)
-        → IsRunOf m h lines last text over → (i : ℕ) (e : Entry) (side : Side) (moment : ℕ) (message : List ℕ)
+        → IsRunOf m h lines last text over → (i : ℕ) (e : Entry) (side : Place) (moment : ℕ) (message : List ℕ)
         → slice_get last i ≡ Some e → IsEntryOf m last i side moment message → (s : ShowsClear m side message e.granted)
         → IsGranted m lines (length h) last i e s.row s.read }
 {

@@ -4,10 +4,10 @@ ghost use Rattle.std.specs.Prelude.{◌≡◌, ◌+◌, ◌<◌, ◌≤◌, ◌^
 ghost use Rattle.arrayvec.specs.ArrayVec.{array_vec_len};
 ghost use Rattle.hsm_auth.specs.declared.entry.Entry.{Entry};
 ghost use Rattle.hsm_auth.specs.History.{StandsFor};
-ghost use Rattle.hsm_answers.specs.Messages.{console};
+ghost use Rattle.hsm_auth.specs.declared.activity.Place.TheVariants.{Console};
 ghost use Rattle.hsm_io.specs.Outside.{Rose};
 ghost use Rattle.hsm_io.specs.Texts.{Appends, AppendsFront};
-ghost use Rattle.hsm_session.specs.Plans.{least_for, least_length, side_of};
+ghost use Rattle.hsm_session.specs.Plans.{least_for, least_length};
 ghost use Rattle.hsm_auth.specs.History.{IsKnown};
 ghost use Rattle.hsm_session.specs.Booking.{IsBooked, BooksAll, BooksFront, BooksSome, IsAnswered, console_line, entry_of, lane_words, reply_line, reply_of};
 ghost use Rattle.hsm_session.specs.Runs.{closed_line, end_line, is_cut, is_short, last_line, short_line};
@@ -56,7 +56,7 @@ impl Buffers {
         requires moment { moment ≤ 2 ^ 40 }
         requires least { least_for «module».now kind ≤ length message.now }
         requires most { length message.now ≤ 65535 }
-        ensures { (h : List Entry) → StandsFor ledger.old h → IsAnswered «module».now (side_of kind) moment message.now ledger.old ledger.new self.new.reply h }
+        ensures { (h : List Entry) → StandsFor ledger.old h → IsAnswered «module».now kind moment message.now ledger.old ledger.new self.new.reply h }
     {
         let plan = prepare(module, kind, message);
         let granted = ledger.step(moment, &plan.ask());
@@ -118,10 +118,10 @@ impl Buffers {
         requires least { 1 ≤ length text.now }
         requires most { length text.now ≤ 65535 }
         ensures booked { OnOk result ((h : List Entry) → StandsFor ledger.old h →
-            IsBooked h (entry_of «module».now console moment h text.now ∷ []) (console_line (reply_of «module».now console moment h text.now))
+            IsBooked h (entry_of «module».now Console moment h text.now ∷ []) (console_line (reply_of «module».now Console moment h text.now))
             ledger.new (S.stands_for out.old) (S.stands_for out.new)) }
         ensures part { OnErr result ((h : List Entry) → StandsFor ledger.old h →
-            BooksFront h (entry_of «module».now console moment h text.now ∷ []) (console_line (reply_of «module».now console moment h text.now))
+            BooksFront h (entry_of «module».now Console moment h text.now ∷ []) (console_line (reply_of «module».now Console moment h text.now))
             ledger.new (S.stands_for out.old) (S.stands_for out.new)) }
         ensures failed { OnErr result (Rose (S.faults out.old) (S.faults out.new)) }
         ensures kept { OnOk result (S.faults out.new ≡ S.faults out.old) }

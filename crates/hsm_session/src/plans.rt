@@ -9,8 +9,9 @@ ghost use Rattle.hsm_lmk.specs.Caches.{capacity_of, kept_in};
 ghost use Rattle.hsm_rows.specs.Table.{IsConsoleRow, IsHostRow, shape_of, shown_shape};
 ghost use Rattle.hsm_answers.specs.Asks.{ask_of};
 ghost use Rattle.hsm_answers.specs.Kept.{opened_by, opened_of};
-ghost use Rattle.hsm_answers.specs.Messages.{command_of, console, enabled_row, header_of, host, message_answer, message_ask, text_after, unknown_answer};
-ghost use Rattle.hsm_session.specs.Plans.{IsOwnPlan, IsPlanOf, IsPlanOfMessage, least_for, least_length, plan_ask, plan_kind, plan_message, planned_ask, planned_row, planned_text, side_of};
+ghost use Rattle.hsm_answers.specs.Messages.{command_of, enabled_row, header_of, message_answer, message_ask, text_after, unknown_answer};
+ghost use Rattle.hsm_auth.specs.declared.activity.Place.TheVariants.{Host, Console};
+ghost use Rattle.hsm_session.specs.Plans.{IsOwnPlan, IsPlanOf, IsPlanOfMessage, least_for, least_length, plan_ask, plan_kind, plan_message, planned_ask, planned_row, planned_text};
 
 use hsm_answers::empty_ask;
 use hsm_auth::{Ask, Granted, Place};
@@ -69,7 +70,7 @@ fn is_disabled(module: &Module, code: &[u8]) -> bool
 // The host row of a code, where the module doesn't disable it.
 #[tactic(auto, unfolding(hsm_answers::specs::Messages::enabled_row))]
 fn enabled_row(module: &Module, code: &[u8; 2]) -> Option<&'static Row>
-    ensures row { option_map shown_shape result ≡ enabled_row «module».now host code.now }
+    ensures row { option_map shown_shape result ≡ enabled_row «module».now Host code.now }
     ensures host { IfSome result (λ r. IsHostRow (shape_of r.now)) }
 {
     if is_disabled(module, code) {
@@ -81,7 +82,7 @@ fn enabled_row(module: &Module, code: &[u8; 2]) -> Option<&'static Row>
 // The console row of a word, where the module doesn't disable it.
 #[tactic(auto, unfolding(hsm_answers::specs::Messages::enabled_row))]
 fn enabled_console_row(module: &Module, word: &[u8]) -> Option<&'static Row>
-    ensures row { option_map shown_shape result ≡ enabled_row «module».now console word.now }
+    ensures row { option_map shown_shape result ≡ enabled_row «module».now Console word.now }
     ensures console { IfSome result (λ r. IsConsoleRow (shape_of r.now)) }
 {
     if is_disabled(module, word) {
@@ -122,12 +123,12 @@ fn plan_row<'m>(
 fn plan_host<'m>(module: &Module, cache: &mut KeyCache, message: &'m [u8]) -> Planned<'m>
     requires agrees { Agrees «module».now.lmk (kept_in cache.old).entries }
     requires least { least_length «module».now ≤ length message.now }
-    ensures plan { IsPlanOfMessage «module».now host message.now result }
-    ensures ask { planned_ask result ≡ message_ask «module».now host message.now }
+    ensures plan { IsPlanOfMessage «module».now Host message.now result }
+    ensures ask { planned_ask result ≡ message_ask «module».now Host message.now }
     ensures may { CanAsk (planned_ask result) }
     ensures agrees { Agrees «module».now.lmk (kept_in cache.new).entries }
     ensures capacity { capacity_of cache.new ≡ capacity_of cache.old }
-    ensures kept { kept_in cache.new ≡ kept_all (capacity_of cache.old) (kept_in cache.old) (opened_of «module».now host message.now) }
+    ensures kept { kept_in cache.new ≡ kept_all (capacity_of cache.old) (kept_in cache.old) (opened_of «module».now Host message.now) }
 {
     let (_, command) = message.split_at(usize::from(module.header));
     let (code, text) = command.split_at(2);
@@ -139,8 +140,8 @@ fn plan_host<'m>(module: &Module, cache: &mut KeyCache, message: &'m [u8]) -> Pl
 
 // The plan of a console's message.
 fn plan_console<'m>(module: &Module, message: &'m [u8]) -> Planned<'m>
-    ensures plan { IsPlanOfMessage «module».now console message.now result }
-    ensures ask { planned_ask result ≡ message_ask «module».now console message.now }
+    ensures plan { IsPlanOfMessage «module».now Console message.now result }
+    ensures ask { planned_ask result ≡ message_ask «module».now Console message.now }
     ensures may { CanAsk (planned_ask result) }
 {
     let (word, text) = message.split_at(token_run(message));
@@ -163,12 +164,12 @@ pub fn prepare_cached<'m>(
     requires most { length message.now ≤ 65535 }
     ensures kind { plan_kind result ≡ kind }
     ensures message { plan_message result ≡ message.now }
-    ensures ask { plan_ask result ≡ message_ask «module».now (side_of kind) message.now }
+    ensures ask { plan_ask result ≡ message_ask «module».now kind message.now }
     ensures may { CanAsk (plan_ask result) }
     ensures plan { IsPlanOf «module».now result }
     ensures agrees { Agrees «module».now.lmk (kept_in cache.new).entries }
     ensures capacity { capacity_of cache.new ≡ capacity_of cache.old }
-    ensures kept { kept_in cache.new ≡ kept_all (capacity_of cache.old) (kept_in cache.old) (opened_of «module».now (side_of kind) message.now) }
+    ensures kept { kept_in cache.new ≡ kept_all (capacity_of cache.old) (kept_in cache.old) (opened_of «module».now kind message.now) }
 {
     match kind {
         Place::Host => Plan {
@@ -190,7 +191,7 @@ pub fn prepare<'m>(module: &Module, kind: Place, message: &'m [u8]) -> Plan<'m>
     requires most { length message.now ≤ 65535 }
     ensures kind { plan_kind result ≡ kind }
     ensures message { plan_message result ≡ message.now }
-    ensures ask { plan_ask result ≡ message_ask «module».now (side_of kind) message.now }
+    ensures ask { plan_ask result ≡ message_ask «module».now kind message.now }
     ensures may { CanAsk (plan_ask result) }
     ensures plan { IsPlanOf «module».now result }
 {
@@ -200,7 +201,7 @@ pub fn prepare<'m>(module: &Module, kind: Place, message: &'m [u8]) -> Plan<'m>
 // The header of a message, which only a host's has.
 fn header_of<'m>(module: &Module, kind: Place, message: &'m [u8]) -> &'m [u8]
     requires { least_for «module».now kind ≤ length message.now }
-    ensures header { result.now ≡ header_of «module».now (side_of kind) message.now }
+    ensures header { result.now ≡ header_of «module».now kind message.now }
     ensures short { length result.now ≤ 255 }
 {
     match kind {
@@ -216,7 +217,7 @@ fn header_of<'m>(module: &Module, kind: Place, message: &'m [u8]) -> &'m [u8]
 fn put_unknown(module: &Module, kind: Place, message: &[u8], reply: &mut Reply)
     requires least { least_for «module».now kind ≤ length message.now }
     requires room { length reply.old ≤ 255 }
-    ensures { reply.new ≡ reply.old ++ unknown_answer (side_of kind) (command_of «module».now (side_of kind) message.now) }
+    ensures { reply.new ≡ reply.old ++ unknown_answer kind (command_of «module».now kind message.now) }
 {
     match kind {
         Place::Host => {
@@ -233,7 +234,7 @@ fn put_unknown(module: &Module, kind: Place, message: &[u8], reply: &mut Reply)
 pub fn finish(module: &Module, plan: &Plan<'_>, granted: &Granted, reply: &mut Reply)
     requires plan { IsPlanOf «module».now plan.now }
     requires fits { Fits (plan_ask plan.now) granted.now }
-    ensures { reply.new ≡ message_answer «module».now (side_of (plan_kind plan.now)) (plan_message plan.now) granted.now }
+    ensures { reply.new ≡ message_answer «module».now (plan_kind plan.now) (plan_message plan.now) granted.now }
 {
     let header = header_of(module, plan.kind, plan.message);
     reply.clear();

@@ -3,7 +3,7 @@
 ghost use Rattle.std.specs.Prelude.{◌≡◌, ◌≤◌, length};
 ghost use Rattle.hsm_auth.specs.History.{Fits};
 ghost use Rattle.hsm_answers.specs.Messages.{message_answer, message_ask};
-ghost use Rattle.hsm_session.specs.Plans.{least_for, side_of};
+ghost use Rattle.hsm_session.specs.Plans.{least_for};
 
 use crate::plans::{finish, prepare};
 use hsm_auth::{Granted, Place};
@@ -14,8 +14,8 @@ use hsm_text::Reply;
 pub fn answer(module: &Module, kind: Place, message: &[u8], granted: &Granted, reply: &mut Reply)
     requires least { least_for «module».now kind ≤ length message.now }
     requires most { length message.now ≤ 65535 }
-    requires fits { Fits (message_ask «module».now (side_of kind) message.now) granted.now }
-    ensures { reply.new ≡ message_answer «module».now (side_of kind) message.now granted.now }
+    requires fits { Fits (message_ask «module».now kind message.now) granted.now }
+    ensures { reply.new ≡ message_answer «module».now kind message.now granted.now }
 {
     answer_by::<0>(module, kind, message, granted, reply);
 }
@@ -30,8 +30,8 @@ fn answer_by<const N: usize>(
 )
     requires least { least_for «module».now kind ≤ length message.now }
     requires most { length message.now ≤ 65535 }
-    requires fits { Fits (message_ask «module».now (side_of kind) message.now) granted.now }
-    ensures { reply.new ≡ message_answer «module».now (side_of kind) message.now granted.now }
+    requires fits { Fits (message_ask «module».now kind message.now) granted.now }
+    ensures { reply.new ≡ message_answer «module».now kind message.now granted.now }
 {
     let plan = prepare(module, kind, message);
     finish(module, &plan, granted, reply);

@@ -10,7 +10,7 @@ use Rattle.hsm_rows.specs.declared.settings.Module.{Module}
 use Rattle.hsm_rows.specs.Table.{RowShape, row_A0, row_BU, row_CC, row_NG, row_JA, row_M6, row_B2, row_NO, row_RA, row_DA, row_A, row_VA, row_C, row_GC, row_FK}
 use Rattle.hsm_answers.specs.Asks.{ask_of, empty_ask}
 use Rattle.hsm_answers.specs.Answers.{answer}
-use Rattle.hsm_answers.specs.Messages.{unknown_answer, message_answer, host, console}
+use Rattle.hsm_answers.specs.Messages.{unknown_answer, message_answer}
 use Rattle.hsm_worked.specs.Modules.{counted_module, equal_module}
 
 -- the row answers the text so
@@ -59,7 +59,7 @@ NoAsk = (m : Module) → ask_of m row_NO (codes "00") ≡ ask.Look
 
 -- an unknown command
 abbrev pub Unknown : Type 0
-Unknown = unknown_answer host (codes "ZZ") ≡ codes "Z[68"
+Unknown = unknown_answer place.Host (codes "ZZ") ≡ codes "Z[68"
 
 -- NG without the activity
 abbrev pub NgRefused : Type 0
@@ -115,15 +115,15 @@ MacPadding = answers equal_module row_M6 (codes "3001300885E813540F0AB4050000000
 
 -- a whole message of a host, with its header
 abbrev pub HostMessage : Type 0
-HostMessage = message_answer equal_module host (codes "0001BU01085E813540F0AB405") (granted.Use 0) ≡ codes "0001BV00D5D44F"
+HostMessage = message_answer equal_module place.Host (codes "0001BU01085E813540F0AB405") (granted.Use 0) ≡ codes "0001BV00D5D44F"
 
 -- a whole message whose command is in no row
 abbrev pub UnknownMessage : Type 0
-UnknownMessage = (g : Granted) → message_answer equal_module host (codes "0001ZZ") g ≡ codes "0001Z[68"
+UnknownMessage = (g : Granted) → message_answer equal_module place.Host (codes "0001ZZ") g ≡ codes "0001Z[68"
 
 -- a console text whose word is in no row
 abbrev pub UnknownWord : Type 0
-UnknownWord = (g : Granted) → message_answer equal_module console (codes "BU 01") g ≡ codes "NO 68"
+UnknownWord = (g : Granted) → message_answer equal_module place.Console (codes "BU 01") g ≡ codes "NO 68"
 
 -- generating a ZMK needs its activity, and two words a part
 abbrev pub A0Ask : Type 0

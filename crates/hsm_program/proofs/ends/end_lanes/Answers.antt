@@ -5,7 +5,7 @@ use Rattle.std.proofs.lemmas.Iterator.Adapters.{YieldsList-from_vec}
 use Rattle.std.proofs.lemmas.Iterator.Consumers.{YieldsList-end, YieldsList-turn}
 use Rattle.std.proofs.lemmas.List.{length-map, map-append}
 use Rattle.hsm_desk.specs.Passes.{PassView}
-use Rattle.hsm_program.specs.Lanes.{Joins, end_of}
+use Rattle.hsm_program.specs.Lanes.{Joins, end_of_lane}
 use Rattle.hsm_program.proofs.Joining.{JoinedTo, joined_all, joined_numbers, joined_push, joined_some, map-id}
 use Rattle.hsm_program.proofs.ends.end_lanes.Goals as goal
 
@@ -17,7 +17,7 @@ lanes-preserved g c =
     record {
       ends = c.in-Ok.ensures.items
           ∙ (λ i. c.lanes.invariant.ends i ++ (ended i).1 ∷ [])
-          ∙ sym (map-append end_of c.lanes.yielded (c.in-Some.lane ∷ []));
+          ∙ sym (map-append end_of_lane c.lanes.yielded (c.in-Some.lane ∷ []));
       room = search rules;
       joined = subst (λ (passes : List PassView). JoinedTo passes (Some c.join.result)) (sym (map-append (λ (lane : _). lane.tools.pass) c.lanes.yielded (c.in-Some.lane ∷ [])))
           (joined_push (map (λ lane. lane.tools.pass) c.lanes.yielded) c.lanes.joined c.in-Some.lane.tools.pass c.join.result c.lanes.invariant.joined joins c.join.ensures.numbers);
@@ -29,7 +29,7 @@ unreachable-requires g c =
     let same : into_iter_len c.into_iter-lane-iterator.result ≡ length c.args.lanes.items = search rules in
     let road = YieldsList-from_vec c.args.lanes.items c.into_iter-lane-iterator.ensures.into_iter_gives.0 same in
     let turn = YieldsList-turn road c.lanes.yielded c.lanes.lane-iterator c.lanes.yielded_by c.next.result c.next.new.self c.in-Some.lane c.in-Some.is c.next.ensures.steps in
-    let so_far : length c.lanes.ends.items ≡ length c.lanes.yielded = ap (λ (l : List _). length l) c.lanes.invariant.ends ∙ length-map c.lanes.yielded end_of in
+    let so_far : length c.lanes.ends.items ≡ length c.lanes.yielded = ap (λ (l : List _). length l) c.lanes.invariant.ends ∙ length-map c.lanes.yielded end_of_lane in
     let less : length c.lanes.ends.items < vec_capacity c.lanes.ends = omega (arith, turn.0, so_far, c.requires.room, c.lanes.invariant.room) in
     search rules
 
@@ -48,7 +48,7 @@ all_yielded g c =
     let road = YieldsList-from_vec c.args.lanes.items c.into_iter-lane-iterator.ensures.into_iter_gives.0 same in
     let whole = YieldsList-end road c.lanes.yielded c.lanes.lane-iterator c.lanes.yielded_by c.next.result c.next.new.self c.in-None.is c.next.ensures.steps in
     let all : c.lanes.yielded ≡ c.args.lanes.items = sym (map-id c.lanes.yielded) ∙ whole.0 in
-    c.lanes.invariant.ends ∙ ap (λ (l : List _). map end_of l) all
+    c.lanes.invariant.ends ∙ ap (λ (l : List _). map end_of_lane l) all
 
 pub returns-clause-ends : goal.returns-clause-ends
 returns-clause-ends g c = all_yielded g c

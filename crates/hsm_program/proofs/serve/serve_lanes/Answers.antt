@@ -7,7 +7,7 @@ use Rattle.hsm_io.specs.Sides.{SeedSide}
 use Rattle.hsm_rows.specs.declared.settings.Module.{Module}
 use Rattle.hsm_server.specs.Lanes.{LaneView, Ran, lane_state, lane_view}
 use Rattle.hsm_program.specs.Headline.{Setting}
-use Rattle.hsm_program.specs.Lanes.{AreJoined, AreLanes, end_of}
+use Rattle.hsm_program.specs.Lanes.{AreJoined, AreLanes, end_of_lane}
 use Rattle.hsm_program.specs.Serving.{ServedBy}
 use Rattle.hsm_program.proofs.Lists.{map_at, stands_at}
 use Rattle.hsm_program.proofs.Served.{few_some, map_twice, pass_of, ran_zip, ready, served_some}
@@ -46,7 +46,7 @@ returns-clause-served g c =
     (ran_zip c.module-module.result state lanes served c.run_all.ensures.count c.run_all.ensures.ran) in
     let joined = subst (λ (passes : List PassView). IfSome c.end_lanes-pass.result (λ pass. AreJoined passes pass)) (sym (map_twice state pass_of served)) c.end_lanes-pass.ensures.joined in
     let views : map view c.end_lanes-pass.new.ends.items ≡ map view_of (map state served) =
-    ap (λ (ends : List _). map view ends) c.end_lanes-pass.ensures.ends ∙ map_twice end_of view served ∙ sym (map_twice state view_of served) in
+    ap (λ (ends : List _). map view ends) c.end_lanes-pass.ensures.ends ∙ map_twice end_of_lane view served ∙ sym (map_twice state view_of served) in
     subst (λ (v : List LaneView). IfSome c.end_lanes-pass.result (λ pass. ServedBy doors moments seeds (g.B.Bench.doors c.open_lanes.new.bench) v pass c.args.config.now)) (sym views)
     (served_some c.own_entries.ensures.total c.own_entries.ensures.there c.own_entries.ensures.every c.words_authorise.ensures c.clear_where_granted.ensures.legal
     c.args.config.now doors (g.B.Bench.doors c.open_lanes.new.bench) seeds moments c.in-Ok-new.desk (map state lanes) (map state served) c.end_lanes-pass.result
@@ -69,7 +69,7 @@ returns-clause-few g c = λ k d less.
     (ran_zip c.module-module.result state lanes served c.run_all.ensures.count c.run_all.ensures.ran) in
     let joined = subst (λ (passes : List PassView). IfSome c.end_lanes-pass.result (λ pass. AreJoined passes pass)) (sym (map_twice state pass_of served)) c.end_lanes-pass.ensures.joined in
     let views : map view c.end_lanes-pass.new.ends.items ≡ map view_of (map state served) =
-    ap (λ (ends : List _). map view ends) c.end_lanes-pass.ensures.ends ∙ map_twice end_of view served ∙ sym (map_twice state view_of served) in
+    ap (λ (ends : List _). map view ends) c.end_lanes-pass.ensures.ends ∙ map_twice end_of_lane view served ∙ sym (map_twice state view_of served) in
     let setting : Setting = record { config = c.args.config.now; seed = seeds.last_seed; to_come = doors.connections; moments = moments } in
     let count = c.in_ok-lanes.ensures.made.count in
     let same = length-map lanes state in

@@ -5,7 +5,7 @@ use Rattle.hsm_keycmd.specs.Plans as key
 use Rattle.hsm_pincmd.specs.Plans as pin
 use Rattle.hsm_datacmd.specs.Plans as held
 use Rattle.hsm_console.specs.Plans as officers
-use Rattle.hsm_session.specs.Plans.{planned_row, planned_text, side_of, plan_kind}
+use Rattle.hsm_session.specs.Plans.{planned_row, planned_text, plan_kind}
 use Rattle.hsm_session.proofs.PlanLaws.{unknown_answer_is, planned_answer_is, room_is}
 use Rattle.hsm_session.proofs.plans.finish.Goals as goal
 
@@ -20,7 +20,7 @@ returns-in-Unknown c =
     let m = c.args.module.now in
     let plan = c.args.plan.now in
     let message = plan.message.now in
-    let side = side_of (plan_kind plan) in
+    let side = plan_kind plan in
     let planned = c.requires.plan.planned in
     let none = sym planned.row ∙ ap planned_row c.in-Unknown.is in
     c.put_unknown.ensures
@@ -33,7 +33,7 @@ returns-in-Key c =
     let m = c.args.module.now in
     let plan = c.args.plan.now in
     let message = plan.message.now in
-    let side = side_of (plan_kind plan) in
+    let side = plan_kind plan in
     let row = key.plan_row c.in-Key.plan in
     let text = key.plan_text c.in-Key.plan in
     c.finish.ensures
@@ -46,7 +46,7 @@ returns-in-Pin c =
     let m = c.args.module.now in
     let plan = c.args.plan.now in
     let message = plan.message.now in
-    let side = side_of (plan_kind plan) in
+    let side = plan_kind plan in
     let row = pin.plan_row c.in-Pin.plan in
     let text = pin.plan_text c.in-Pin.plan in
     c.finish-in-Pin.ensures
@@ -59,7 +59,7 @@ returns-in-Data c =
     let m = c.args.module.now in
     let plan = c.args.plan.now in
     let message = plan.message.now in
-    let side = side_of (plan_kind plan) in
+    let side = plan_kind plan in
     let row = held.plan_row c.in-Data.plan in
     let text = held.plan_text c.in-Data.plan in
     c.finish-in-Data.ensures
@@ -72,7 +72,7 @@ returns-in-Console c =
     let m = c.args.module.now in
     let plan = c.args.plan.now in
     let message = plan.message.now in
-    let side = side_of (plan_kind plan) in
+    let side = plan_kind plan in
     let row = officers.plan_row c.in-Console.plan in
     let text = officers.plan_text c.in-Console.plan in
     c.finish-in-Console.ensures

@@ -6,7 +6,7 @@ use Rattle.hsm_auth.specs.declared.entry.Ask.{Ask}
 use Rattle.hsm_auth.specs.History.{outcome}
 use Rattle.hsm_session.specs.declared.serving.Count.{Count}
 use Rattle.hsm_session.specs.Connections.{scene}
-use Rattle.hsm_session.specs.Plans.{plan_message, side_of}
+use Rattle.hsm_session.specs.Plans.{plan_message}
 use Rattle.hsm_session.specs.Serving.{IsServing, holding}
 use Rattle.hsm_session.proofs.Talking.{going_books}
 use Rattle.hsm_session.proofs.serving.book_message.Goals as goal
@@ -27,9 +27,9 @@ returns-clause-booked g c = λ start traffic rest out going.
     let granted = c.book-booked.result.granted in
     let place = c.book-booked.result.place in
     let plan = c.prepare-plan.result in
-    let answered : c.finish.new.reply ≡ message_answer m (side_of kind) c.args.message.now granted =
-    c.finish.ensures ∙ (ap (λ (k : Place). message_answer m (side_of k) (plan_message plan) granted) c.prepare-plan.ensures.kind
-    ∙ ap (λ (message : List ℕ). message_answer m (side_of kind) message granted) c.prepare-plan.ensures.message) in
+    let answered : c.finish.new.reply ≡ message_answer m kind c.args.message.now granted =
+    c.finish.ensures ∙ (ap (λ (k : Place). message_answer m k (plan_message plan) granted) c.prepare-plan.ensures.kind
+    ∙ ap (λ (message : List ℕ). message_answer m kind message granted) c.prepare-plan.ensures.message) in
     let old = scene c.args.pass.now (g.C.Clock.last c.args.clock.now) (g.C.Clock.to_come c.args.clock.now) (g.G.Gate.calls c.args.gate.now) traffic in
     let new = scene c.book-booked.new.pass (g.C.Clock.last c.book-booked.new.clock) (g.C.Clock.to_come c.book-booked.new.clock) (g.G.Gate.calls c.after_book.new.self) traffic in
     subst (λ (count : Count). IsServing m kind lane start new (holding rest (out ++ frame c.finish.new.reply) count))

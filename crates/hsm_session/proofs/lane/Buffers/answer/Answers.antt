@@ -1,7 +1,7 @@
 use Rattle.std.proofs.Common.{List, ℕ, ap, ◌∙◌}
 use Rattle.hsm_answers.specs.Messages.{message_answer}
 use Rattle.hsm_auth.specs.declared.activity.Place.{Place}
-use Rattle.hsm_session.specs.Plans.{plan_message, side_of}
+use Rattle.hsm_session.specs.Plans.{plan_message}
 use Rattle.hsm_session.proofs.BookingLaws.{answered}
 use Rattle.hsm_session.proofs.lane.Buffers.answer.Goals as goal
 
@@ -10,7 +10,7 @@ returns g c =
     let m = c.args.module.now in
     let granted = c.step-granted.result in
     let plan = c.prepare-plan.result in
-    answered m (side_of c.args.kind) c.args.moment c.args.message.now c.finish.new.reply c.ask.result granted c.args.ledger.now c.step-granted.new.self
+    answered m c.args.kind c.args.moment c.args.message.now c.finish.new.reply c.ask.result granted c.args.ledger.now c.step-granted.new.self
     (c.ask.ensures ∙ c.prepare-plan.ensures.ask) c.step-granted.ensures.answer c.step-granted.ensures.stands c.step-granted.ensures.legal
-    (c.finish.ensures ∙ (ap (λ (kind : Place). message_answer m (side_of kind) (plan_message plan) granted) c.prepare-plan.ensures.kind
-    ∙ ap (λ (message : List ℕ). message_answer m (side_of c.args.kind) message granted) c.prepare-plan.ensures.message))
+    (c.finish.ensures ∙ (ap (λ (kind : Place). message_answer m kind (plan_message plan) granted) c.prepare-plan.ensures.kind
+    ∙ ap (λ (message : List ℕ). message_answer m c.args.kind message granted) c.prepare-plan.ensures.message))

@@ -2,7 +2,7 @@ use Rattle.std.proofs.Common.{◌≡◌, ◌∷◌, [], List, arith}
 use Rattle.std.proofs.lemmas.Grind.{common_steps}
 use Rattle.hsm_auth.specs.declared.entry.Entry.{Entry}
 use Rattle.hsm_auth.specs.History.{StandsFor}
-use Rattle.hsm_answers.specs.Messages.{console}
+use Rattle.hsm_auth.specs.declared.activity.Place.TheVariants.{Console}
 use Rattle.hsm_io.specs.Texts.{Appends, AppendsFront}
 use Rattle.hsm_session.specs.Booking.{console_line, entry_of, reply_of, IsBooked, BooksFront}
 use Rattle.hsm_session.proofs.BookingLaws.{books_message, front_message, on_err, on_ok}
@@ -19,9 +19,9 @@ returns-clause-booked g c =
     let text : c.deref.result.now ≡ console_line reply = grind (arith, common_steps) in
     on_ok c.write_all.result (Appends before after c.deref.result.now)
     ((h : List Entry) → StandsFor c.args.ledger.now h
-    → IsBooked h (entry_of m console c.args.moment h message ∷ []) (console_line (reply_of m console c.args.moment h message)) c.answer.new.ledger before after)
+    → IsBooked h (entry_of m Console c.args.moment h message ∷ []) (console_line (reply_of m Console c.args.moment h message)) c.answer.new.ledger before after)
     c.write_all.ensures.ok
-    (λ printed h at. books_message m console c.args.moment message reply c.deref.result.now console_line c.args.ledger.now c.answer.new.ledger before after h (c.answer.ensures h at) text printed)
+    (λ printed h at. books_message m Console c.args.moment message reply c.deref.result.now console_line c.args.ledger.now c.answer.new.ledger before after h (c.answer.ensures h at) text printed)
 
 pub returns-clause-part : goal.returns-clause-part
 unfolding console_line
@@ -34,6 +34,6 @@ returns-clause-part g c =
     let text : c.deref.result.now ≡ console_line reply = grind (arith, common_steps) in
     on_err c.write_all.result (AppendsFront before after c.deref.result.now)
     ((h : List Entry) → StandsFor c.args.ledger.now h
-    → BooksFront h (entry_of m console c.args.moment h message ∷ []) (console_line (reply_of m console c.args.moment h message)) c.answer.new.ledger before after)
+    → BooksFront h (entry_of m Console c.args.moment h message ∷ []) (console_line (reply_of m Console c.args.moment h message)) c.answer.new.ledger before after)
     c.write_all.ensures.front
-    (λ printed h at. front_message m console c.args.moment message reply c.deref.result.now console_line c.args.ledger.now c.answer.new.ledger before after h (c.answer.ensures h at) text printed)
+    (λ printed h at. front_message m Console c.args.moment message reply c.deref.result.now console_line c.args.ledger.now c.answer.new.ledger before after h (c.answer.ensures h at) text printed)

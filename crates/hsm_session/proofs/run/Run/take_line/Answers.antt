@@ -1,7 +1,7 @@
 use Rattle.std.proofs.Common.{ℕ, List, [], ◌∷◌, refl, subst}
 use Rattle.hsm_auth.specs.declared.entry.Entry.{Entry}
 use Rattle.hsm_auth.specs.History.{StandsFor}
-use Rattle.hsm_answers.specs.Messages.{console}
+use Rattle.hsm_auth.specs.declared.activity.Place.TheVariants.{Console}
 use Rattle.hsm_session.specs.Booking.{IsBooked, BooksFront, console_line, entry_of, reply_of}
 use Rattle.std.specs.Result.{OnErr}
 use Rattle.hsm_session.specs.Scripts.{Piece}
@@ -25,7 +25,7 @@ returns-in_ok-print_console-in-Console-clause-takes g c =
     (takes_console c.args.module.now c.args.self.now _ c.in-Console.text.items c.args.ledger.now c.print_console.new.ledger (g.S.Sink.stands_for c.args.out.now)
     (g.S.Sink.stands_for c.print_console.new.out) refl refl refl
     (subst (λ (text : List ℕ). (h : List Entry) → StandsFor c.args.ledger.now h
-    → IsBooked h (entry_of c.args.module.now console c.args.self.now.moment h text ∷ []) (console_line (reply_of c.args.module.now console c.args.self.now.moment h text))
+    → IsBooked h (entry_of c.args.module.now Console c.args.self.now.moment h text ∷ []) (console_line (reply_of c.args.module.now Console c.args.self.now.moment h text))
     c.print_console.new.ledger (g.S.Sink.stands_for c.args.out.now) (g.S.Sink.stands_for c.print_console.new.out))
     c.deref-in-Console.ensures.value c.in_ok-print_console-in-Console.ensures.booked))
 
@@ -36,7 +36,7 @@ returns-in_err-print_console-in-Console-clause-stops g c =
     let after = g.S.Sink.stands_for c.print_console.new.out in
     let moment = c.args.self.now.moment in
     let part = subst (λ (text : List ℕ). (h : List Entry) → StandsFor c.args.ledger.now h
-    → BooksFront h (entry_of m console moment h text ∷ []) (console_line (reply_of m console moment h text)) c.print_console.new.ledger before after)
+    → BooksFront h (entry_of m Console moment h text ∷ []) (console_line (reply_of m Console moment h text)) c.print_console.new.ledger before after)
     c.deref-in-Console.ensures.value c.in_err-print_console-in-Console.ensures.part in
     for_err c.from_residual.result (StopsLine m c.args.self.now (said_of c.args.line.now) c.args.ledger.now c.print_console.new.ledger before after)
     (rw c.in-Console.is (stops_at_console m c.args.self.now c.in-Console.text.items c.args.ledger.now c.print_console.new.ledger before after part))
