@@ -25,7 +25,8 @@ use Rattle.hsm_answers.specs.Answers.{answer, host_answer, host_body}
 use Rattle.hsm_answers.specs.Asks.{as_needs, ask_of, ask_read, asked_words, words_hold, authorise, cancel, empty_ask, row_ask}
 use Rattle.hsm_answers.specs.Checks.{check_before, check_read, is_refused, needs_of}
 use Rattle.hsm_answers.specs.Values.{values}
-use Rattle.hsm_answers.specs.Messages.{host, answer_by, ask_by, header_of, command_of, enabled_row, message_answer, message_ask, text_after}
+use Rattle.hsm_auth.specs.declared.activity.Place.TheVariants.{Host}
+use Rattle.hsm_answers.specs.Messages.{answer_by, ask_by, header_of, command_of, enabled_row, message_answer, message_ask, text_after}
 use Rattle.hsm_rows.specs.Codes.{check_codes, codes_of, is_among, named_codes}
 use Rattle.hsm_codes.specs.Codes.{BearsCode}
 use Rattle.hsm_codes.proofs.Among.{behind, each, left, opt_among, third}
@@ -126,17 +127,17 @@ answer_is : (m : Module) (row : RowShape) (text : List ℕ) (g : Granted) → is
 unfolding answer
 answer_is m row text g side = rw side refl
 
-pub bears : (m : Module) (message : List ℕ) (g : Granted) (row : RowShape) → enabled_row m host (command_of m host message) ≡ Some row
-    → Fits (message_ask m host message) g → BearsCode m row message g
+pub bears : (m : Module) (message : List ℕ) (g : Granted) (row : RowShape) → enabled_row m Host (command_of m Host message) ≡ Some row
+    → Fits (message_ask m Host message) g → BearsCode m row message g
 unfolding message_answer message_ask ask_of
 bears m message g row found fits =
-    let row_coded = enabled_coded m (command_of m host message) row found in
-    let text = text_after m host message in
-    let fits_row : Fits (ask_read m (rules_of row) (reading row text)) g = subst (λ (o : Option RowShape). Fits (ask_by m host message o) g) found fits in
+    let row_coded = enabled_coded m (command_of m Host message) row found in
+    let text = text_after m Host message in
+    let fits_row : Fits (ask_read m (rules_of row) (reading row text)) g = subst (λ (o : Option RowShape). Fits (ask_by m Host message o) g) found fits in
     let read = read_bears m row g text (reading row text) row_coded.host refl fits_row in
     record {
       code = read.code;
       among = each (λ code. is_among code (codes_of row)) read.code (named_codes row) row_coded.named read.named;
       rest = read.rest;
-      is = ap (λ (o : Option RowShape). header_of m host message ++ answer_by m host message g o) found ∙ ap (λ (body : List ℕ). header_of m host message ++ body) (answer_is m row text g row_coded.host ∙ read.is);
+      is = ap (λ (o : Option RowShape). header_of m Host message ++ answer_by m Host message g o) found ∙ ap (λ (body : List ℕ). header_of m Host message ++ body) (answer_is m row text g row_coded.host ∙ read.is);
     }
