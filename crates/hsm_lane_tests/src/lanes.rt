@@ -2,7 +2,7 @@
 ghost use Rattle.std.specs.Prelude.{◌≡◌, ◌≤◌, ◌<◌, ◌^◌, [], false, All, IfOk, OnOk, Some, None};
 ghost use Rattle.hsm_io.specs.Connections.{Doorway};
 ghost use Rattle.hsm_io.specs.MemoryLinks.{IsUntouched};
-ghost use Rattle.hsm_server.specs.Lanes.{IsReady, lane_state};
+ghost use Rattle.hsm_server.specs.Lanes.{IsReady};
 
 use arrayvec::ArrayVec;
 use hsm_auth::Ledger;
@@ -10,7 +10,7 @@ use hsm_desk::{Desk, Pass};
 use hsm_io::{Clock, Door, Gate, MemClock, MemDoor, MemLink, OpenGate};
 use hsm_laboratory::{Set, module_of};
 use hsm_rows::Module;
-use hsm_server::{Lane, LaneEnd, kind_for, run_lanes};
+use hsm_server::{HasState, Lane, LaneEnd, kind_for, run_lanes};
 use hsm_session::{ConnEnd, least_message};
 use std::alloc::{Alloc, AllocError, Global};
 use std::process::Abort;
@@ -93,8 +93,8 @@ pub(crate) fn add<D: Door + Send + Drop, C: Clock + Send + Drop, G: Gate + Send 
     requires pass { pass.desk ≡ desk.now }
     requires none_out { D.is_out door ≡ false }
     requires none_taken { (d : Doorway) → D.doorway door ≡ Some d → d.taken ≡ [] }
-    requires ready { All (λ lane. IsReady «module».now desk.now (lane_state D.doorway D.faults D.broken D.is_out C.last C.to_come G.calls lane)) lanes.old.items }
-    ensures ready { OnOk result (All (λ lane. IsReady «module».now desk.now (lane_state D.doorway D.faults D.broken D.is_out C.last C.to_come G.calls lane)) lanes.new.items) }
+    requires ready { All (λ lane. IsReady «module».now desk.now (⟦<Lane<D, C, G> as HasState>⟧.state lane)) lanes.old.items }
+    ensures ready { OnOk result (All (λ lane. IsReady «module».now desk.now (⟦<Lane<D, C, G> as HasState>⟧.state lane)) lanes.new.items) }
 {
     let kind = kind_for(number);
     let least = least_message(module, kind);
@@ -117,7 +117,7 @@ where
     D: Door + Send,
     C: Clock + Send,
     G: Gate + Send,
-    requires ready { All (λ lane. IsReady «module».now desk.now (lane_state D.doorway D.faults D.broken D.is_out C.last C.to_come G.calls lane)) lanes.old.items }
+    requires ready { All (λ lane. IsReady «module».now desk.now (⟦<Lane<D, C, G> as HasState>⟧.state lane)) lanes.old.items }
     ensures desk { All (λ lane. lane.tools.pass.desk ≡ desk.now) lanes.new.items }
 {
     run_lanes(rt, module, desk, lanes.as_mut_slice())
