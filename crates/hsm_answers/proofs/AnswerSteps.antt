@@ -14,7 +14,7 @@ use Rattle.hsm_answers.specs.Keys.{first_code}
 use Rattle.hsm_answers.specs.Checks.{check_before, check_read, entry_fault}
 use Rattle.hsm_answers.specs.Asks.{ask_of, ask_read, row_ask, empty_ask}
 use Rattle.hsm_answers.specs.Answers.{answer, host_answer, host_body, console_answer}
-use Rattle.hsm_answers.specs.Plans.{IsChecked, AreFields, HasPassed, host_text, fault_at, fields_after, fields_text, code_text, number_of}
+use Rattle.hsm_answers.specs.Plans.{IsChecked, AreFields, HasPassed, host_text, fault_at, fields_after, fields_text, code_text, code_number}
 
 -- the body with this refusal, or with none
 body_of : (m : Module) (row : RowShape) (r : ReadText) (g : Granted) (fields trailer : List ℕ) (fault : Option ℕ)
@@ -39,7 +39,7 @@ host_answered m row (Err code) g (Passed late) fields trailer h f = absurd h
 host_answered m row (Ok r) g (Unread unread) fields trailer h f = absurd h
 host_answered m row (Ok r) g (Failed failed) fields trailer h f = rw (h.fault, h.rest) refl
 host_answered m row (Ok r) g (Passed late) fields trailer h f =
-    ap (λ (x : Option ℕ). row.reply ++ host_body m row r g x) (late_fault m row r g (option_map number_of late) trailer h)
+    ap (λ (x : Option ℕ). row.reply ++ host_body m row r g x) (late_fault m row r g (option_map code_number late) trailer h)
     ∙ ap (λ (x : List ℕ). row.reply ++ x) (body_of m row r g fields trailer (fault_at (Passed late) g) h.rest f)
 
 -- the answer of a row that is no console row

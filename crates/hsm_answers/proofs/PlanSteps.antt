@@ -15,7 +15,7 @@ use Rattle.hsm_answers.specs.Keys.{first_code}
 use Rattle.hsm_answers.specs.Checks.{check_before, check_after, is_refused}
 use Rattle.hsm_answers.specs.Asks.{row_ask, empty_ask}
 use Rattle.hsm_answers.specs.Answers.{answer}
-use Rattle.hsm_answers.specs.Plans.{IsPlanned, IsChecked, AreFields, fields_text, fields_after, fault_at, code_text, number_of}
+use Rattle.hsm_answers.specs.Plans.{IsPlanned, IsChecked, AreFields, fields_text, fields_after, fault_at, code_text, code_number}
 use Rattle.hsm_answers.proofs.AnswerSteps.{answered, unread_ask, failed_ask, passed_ask}
 
 module _ (m : Module) (row : RowShape) (rd : Result ReadText Code) where
@@ -40,7 +40,7 @@ module _ (m : Module) (row : RowShape) (rd : Result ReadText Code) where
       let P : Result ReadText Code → Type 0 = λ x. AreFields m row x (Failed code) g fields in
       subst P (sym e) (λ h. cc)
 
-  passed_checked : (r : ReadText) (late : Option Code) → rd ≡ Ok r → check_before m (rules_of row) r ≡ None → option_map number_of late ≡ check_after m (rules_of row) r
+  passed_checked : (r : ReadText) (late : Option Code) → rd ≡ Ok r → check_before m (rules_of row) r ≡ None → option_map code_number late ≡ check_after m (rules_of row) r
       → IsChecked m row rd (Passed late) r.trailer
   passed_checked r late e h k =
       let P : Result ReadText Code → Type 0 = λ x. IsChecked m row x (Passed late) r.trailer in
@@ -54,7 +54,7 @@ module _ (m : Module) (row : RowShape) (rd : Result ReadText Code) where
       subst P (sym e) h
 
 -- there is no later refusal where there is none at the entry
-none_late : (refused : Bool) (late : Option Code) → first_code ((if refused then Some 17 else None) ∷ option_map number_of late ∷ []) ≡ None → late ≡ None
+none_late : (refused : Bool) (late : Option Code) → first_code ((if refused then Some 17 else None) ∷ option_map code_number late ∷ []) ≡ None → late ≡ None
 none_late true late h = let z : ⊥ = cc in absurd z
 none_late false None h = refl
 none_late false (Some code) h = let z : ⊥ = cc in absurd z
@@ -83,7 +83,7 @@ planned_failed m row text r code fields e h n = record {
 pub planned_passed : (m : Module) (row : RowShape) (text : List ℕ) (r : ReadText) (ask : Ask) (late : Option Code) (fields : Granted → List ℕ)
     → reading row text ≡ Ok r → check_before m (rules_of row) r ≡ None
     → ask ≡ row_ask m (rules_of row) r (rules_of row).ask → CanAsk ask
-    → option_map number_of late ≡ check_after m (rules_of row) r → length r.trailer ≤ 33
+    → option_map code_number late ≡ check_after m (rules_of row) r → length r.trailer ≤ 33
     → ((g : Granted) → late ≡ None → fields_text m (rules_of row) row g r ≡ fields g)
     → IsPlanned m row text ask (Passed late) r.trailer fields
 planned_passed m row text r ask late fields e h a c k n f = record {

@@ -176,14 +176,14 @@ lengths_differ r k None = false
 lengths_differ r k (Some j) = not (is_absent r j) && not (scheme_parts (scheme_at r k) == scheme_parts (scheme_at r j))
 
 -- what a key check asks of a given key
-abbrev pub asked : ReadText → TypeSource → Bool → LengthRule → Code → Asked
-asked r ty wraps rule parity =
+abbrev pub asked_key : ReadText → TypeSource → Bool → LengthRule → Code → Asked
+asked_key r ty wraps rule parity =
     record { ty = type_of r ty; wraps = wraps; by_scheme = parts_by_scheme rule r; by_rule = parts_by_rule rule r; parity = parity }
 
 -- what is wrong with a key; one to be made has 26 where the lengths of its two schemes differ, and 27 where its type doesn't allow the length
 unfoldable pub key_fault : Module → RowRules → ReadText → KeyCheck → Option ℕ
 key_fault m rules r (GivenKey k under ty wraps rule parity) =
-    given_fault (wrapping_key m rules r under (type_of r ty)) under (asked r ty wraps rule parity) (field_text r k)
+    given_fault (wrapping_key m rules r under (type_of r ty)) under (asked_key r ty wraps rule parity) (field_text r k)
 key_fault m rules r (Target ty k second) =
     if lengths_differ r k second then Some 26
     else if not (allows_length (type_of r ty) (scheme_parts (scheme_at r k))) then Some 27

@@ -18,8 +18,8 @@ use Rattle.hsm_answers.specs.Checks.{check_before, check_after, entry_fault}
 use Rattle.hsm_answers.specs.Asks.{ask_of}
 
 -- the number of a code
-abbrev pub number_of : Code → ℕ
-number_of code = code.0
+abbrev pub code_number : Code → ℕ
+code_number code = code.0
 
 -- the checks before the entry fail
 pub record HasFailed (m : Module) (row : RowShape) (r : ReadText) (code : ℕ) (trailer : List ℕ) : Type 0 where
@@ -39,13 +39,13 @@ IsChecked m row (Err code) (Failed failed) trailer = ⊥
 IsChecked m row (Err code) (Passed late) trailer = ⊥
 IsChecked m row (Ok r) (Unread unread) trailer = ⊥
 IsChecked m row (Ok r) (Failed failed) trailer = HasFailed m row r failed.0 trailer
-IsChecked m row (Ok r) (Passed late) trailer = HasPassed m row r (option_map number_of late) trailer
+IsChecked m row (Ok r) (Passed late) trailer = HasPassed m row r (option_map code_number late) trailer
 
 -- the code of the refusal at the entry, if there is one
 abbrev pub fault_at : Checked → Granted → Option ℕ
 fault_at (Unread code) g = Some code.0
 fault_at (Failed code) g = Some code.0
-fault_at (Passed late) g = first_code (entry_fault g ∷ option_map number_of late ∷ [])
+fault_at (Passed late) g = first_code (entry_fault g ∷ option_map code_number late ∷ [])
 
 -- the error code, 00 where there is no refusal
 abbrev pub code_text : Option ℕ → List ℕ

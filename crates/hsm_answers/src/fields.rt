@@ -9,7 +9,7 @@ ghost use Rattle.hsm_nibbles.specs.Nibbles.{block_of};
 ghost use Rattle.hsm_nibbles.specs.Characters.{digit_value, hex_character};
 ghost use Rattle.hsm_rows.specs.Standing.{AreDigits, AreHexDigits};
 ghost use Rattle.hsm_answers.specs.Pins.{block_text};
-ghost use Rattle.hsm_answers.specs.Plans.{number_of};
+ghost use Rattle.hsm_answers.specs.Plans.{code_number};
 ghost use Rattle.hsm_answers.specs.Given.{compared_code};
 
 use hsm_nibbles::{block_characters, block_of, hex_character};
@@ -84,7 +84,7 @@ fn same_digits(given: &[u8], written: &[u8]) -> bool
 
 /// 01 where a value is given that isn't the row's value as it is written; letters may be of either case.
 pub fn compared(given: &[u8], written: &[u8]) -> Option<Code>
-    ensures { option_map number_of result ≡ compared_code given.now written.now }
+    ensures { option_map code_number result ≡ compared_code given.now written.now }
 {
     if given.is_empty() || same_digits(given, written) {
         None

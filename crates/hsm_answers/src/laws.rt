@@ -11,7 +11,7 @@ ghost use Rattle.hsm_rows.specs.Reading.{reading, ReadText, is_console};
 ghost use Rattle.hsm_answers.specs.Asks.{empty_ask, row_ask};
 ghost use Rattle.hsm_answers.specs.Answers.{answer};
 ghost use Rattle.hsm_answers.specs.Checks.{check_before, check_after};
-ghost use Rattle.hsm_answers.specs.Plans.{IsPlanned, number_of, fault_at, code_text, fields_text};
+ghost use Rattle.hsm_answers.specs.Plans.{IsPlanned, code_number, fault_at, code_text, fields_text};
 ghost use Rattle.hsm_answers.specs.declared.plans.Checked.{Checked};
 
 /// What the plan of a message keeps. One that doesn't read, or of which a check before the entry fails, asks for
@@ -25,7 +25,7 @@ pub fn planned()
     ensures passed { (m : Module) (row : RowShape) (text : List ℕ) (r : ReadText) (ask : Ask) (late : Option Code) (fields : Granted → List ℕ)
         → reading row text ≡ Ok r → check_before m (rules_of row) r ≡ None
         → ask ≡ row_ask m (rules_of row) r (rules_of row).ask → CanAsk ask
-        → option_map number_of late ≡ check_after m (rules_of row) r → length r.trailer ≤ 33
+        → option_map code_number late ≡ check_after m (rules_of row) r → length r.trailer ≤ 33
         → ((g : Granted) → late ≡ None → fields_text m (rules_of row) row g r ≡ fields g)
         → IsPlanned m row text ask (Checked.Passed late) r.trailer fields }
 {}

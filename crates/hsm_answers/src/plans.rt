@@ -5,7 +5,7 @@ ghost use Rattle.hsm_rows.specs.Table.{shape_of};
 ghost use Rattle.hsm_answers.specs.Values.{first_of};
 ghost use Rattle.hsm_answers.specs.Checks.{is_refused};
 ghost use Rattle.hsm_answers.specs.Asks.{empty_ask};
-ghost use Rattle.hsm_answers.specs.Plans.{number_of, fault_at, code_text};
+ghost use Rattle.hsm_answers.specs.Plans.{code_number, fault_at, code_text};
 
 use hsm_auth::{Ask, Granted, Needs};
 use hsm_rows::{Code, Row};
@@ -55,7 +55,7 @@ pub fn first_of(granted: &Granted) -> u64
 impl Checked {
     /// The code of the refusal at the entry, if there is one.
     pub fn fault(&self, granted: &Granted) -> Option<Code>
-        ensures { option_map number_of result ≡ fault_at self.now granted.now }
+        ensures { option_map code_number result ≡ fault_at self.now granted.now }
     {
         match self {
             Checked::Unread(code) | Checked::Failed(code) => Some(*code),

@@ -27,7 +27,7 @@ use Rattle.hsm_types.specs.Table.{allows_length}
 use Rattle.hsm_types.specs.Schemes.{scheme_parts}
 use Rattle.hsm_lmk.specs.Opened.{all_odd, opened}
 use Rattle.hsm_pinblock.specs.declared.Format.TheVariants.{F01}
-use Rattle.hsm_answers.specs.Keys.{KeyData, asked, field_text, first_code, given_fault, is_absent, key_data_fault, key_fault, key_of, keys_fault, length_fault, lengths_differ, scheme_at, scheme_fault, type_of, wrapping_key}
+use Rattle.hsm_answers.specs.Keys.{KeyData, asked_key, field_text, first_code, given_fault, is_absent, key_data_fault, key_fault, key_of, keys_fault, length_fault, lengths_differ, scheme_at, scheme_fault, type_of, wrapping_key}
 use Rattle.hsm_answers.specs.declared.keys.Asked.{Asked}
 use Rattle.hsm_answers.specs.Pins.{block_fault_code, clear_digits, digits_at, format_at, given_pin, lmk_block, number_at, pin_fault, sent_block}
 use Rattle.hsm_answers.specs.Macs.{ends_message, is_only, mac_data, mac_fault, mac_padding}
@@ -73,7 +73,7 @@ target_codes false false = refl
 
 key_has : (m : Module) (rules : RowRules) (r : ReadText) (k : KeyCheck) → opt_among (key_fault m rules r k) (0 ∷ 15 ∷ key_codes k) ≡ true
 unfolding key_fault
-key_has m rules r (GivenKey k under ty wraps rule parity) = given_codes (wrapping_key m rules r under (type_of r ty)) under (asked r ty wraps rule parity) (field_text r k)
+key_has m rules r (GivenKey k under ty wraps rule parity) = given_codes (wrapping_key m rules r under (type_of r ty)) under (asked_key r ty wraps rule parity) (field_text r k)
 key_has m rules r (Target ty k second) = target_codes (lengths_differ r k second) (not (allows_length (type_of r ty) (scheme_parts (scheme_at r k))))
 
 keys_have : (m : Module) (rules : RowRules) (r : ReadText) (keys : List KeyCheck) → opt_among (first_code (map (key_fault m rules r) keys)) (0 ∷ 15 ∷ flat_map key_codes keys) ≡ true

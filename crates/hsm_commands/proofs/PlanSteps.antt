@@ -13,19 +13,19 @@ use Rattle.hsm_answers.specs.declared.plans.Checked.TheVariants.{Unread, Failed,
 use Rattle.hsm_answers.specs.Keys.{first_code}
 use Rattle.hsm_answers.specs.Checks.{check_before, check_after, is_refused}
 use Rattle.hsm_answers.specs.Asks.{row_ask}
-use Rattle.hsm_answers.specs.Plans.{fault_at, number_of}
+use Rattle.hsm_answers.specs.Plans.{fault_at, code_number}
 use Rattle.hsm_answers.specs.Values.{row_value, chain_value}
 use Rattle.std.specs.Option.{option_map}
 use Rattle.hsm_auth.specs.declared.entry.Ask.{Ask}
 use Rattle.hsm_commands.specs.declared.keys.OpenedKeys.{OpenedKeys}
-use Rattle.hsm_commands.specs.declared.terms.Held.{Held}
+use Rattle.hsm_commands.specs.declared.terms.HeldParts.{HeldParts}
 use Rattle.hsm_commands.specs.Opened.{KeysHold}
 use Rattle.hsm_commands.specs.Demands.{IsLeft}
 use Rattle.hsm_commands.specs.Written.{written_text}
 use Rattle.hsm_commands.specs.Plans.{IsFollowed, IsReady, RowStands, FitsText}
 
 -- the checks before the entry held, and none after it fails, where the message is answered 00
-late_none : (refused : Bool) (late : Option Code) → first_code ((if refused then Some 17 else None) ∷ option_map number_of late ∷ []) ≡ None → late ≡ None
+late_none : (refused : Bool) (late : Option Code) → first_code ((if refused then Some 17 else None) ∷ option_map code_number late ∷ []) ≡ None → late ≡ None
 late_none true late h = let z : ⊥ = cc in absurd z
 late_none false None h = refl
 late_none false (Some code) h = let z : ⊥ = cc in absurd z
@@ -76,7 +76,7 @@ module _ (m : Module) (row : RowShape) (rules : RowRules) (same : rules ≡ rule
   ask_is ask h = h ∙ ap (λ (x : RowRules). row_ask m x r x.ask) same
 
   -- what is held is what the reply fields need
-  pub ready_is : (keys : OpenedKeys) (held : Held) → KeysHold m rules r rules.keys keys → held.keys ≡ keys → IsLeft m rules r held.pin
+  pub ready_is : (keys : OpenedKeys) (held : HeldParts) → KeysHold m rules r rules.keys keys → held.keys ≡ keys → IsLeft m rules r held.pin
       → written_text held.value ≡ row_value m rules r rules.value → written_text held.chain ≡ chain_value m rules r rules.value → IsReady m (rules_of row) row.terms r held
   ready_is keys held hold kept left value chain =
       let P : RowRules → Type 0 = λ x. IsReady m x row.terms r held in

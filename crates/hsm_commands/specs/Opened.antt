@@ -9,7 +9,7 @@ use Rattle.hsm_rows.specs.declared.rules.Under.TheVariants.{Lmk, KeyAt}
 use Rattle.hsm_rows.specs.Rules.{RowRules}
 use Rattle.hsm_rows.specs.Reading.{ReadText, is_end}
 use Rattle.hsm_answers.specs.declared.keys.Asked.{Asked}
-use Rattle.hsm_answers.specs.Keys.{field_text, is_absent, source_at, asked, lmk_key, wrapped_key, parts_by_scheme, differs, lengths_differ}
+use Rattle.hsm_answers.specs.Keys.{field_text, is_absent, source_at, asked_key, lmk_key, wrapped_key, parts_by_scheme, differs, lengths_differ}
 use Rattle.hsm_commands.specs.declared.keys.FieldKey.{FieldKey}
 use Rattle.hsm_commands.specs.declared.keys.OpenedKeys.{OpenedKeys}
 
@@ -66,7 +66,7 @@ module _ (m : Module) (rules : RowRules) (r : ReadText) where
 
   -- what it leaves
   abbrev pub KeyHolds : KeyCheck → Option FieldKey → Type 0
-  KeyHolds (GivenKey k Lmk ty wraps rule parity) held = IsLmkKey k (asked r ty wraps rule parity) held
+  KeyHolds (GivenKey k Lmk ty wraps rule parity) held = IsLmkKey k (asked_key r ty wraps rule parity) held
   KeyHolds (GivenKey k (KeyAt kek) ty wraps rule parity) held =
       (held ≡ field_key k (wrapped_key m rules r k kek)) × IfSome (parts_by_scheme rule r) (λ n. length (wrapped_key m rules r k kek) ≡ n)
   KeyHolds (Target ty k second) held = (held ≡ None) × (lengths_differ r k second ≡ false)

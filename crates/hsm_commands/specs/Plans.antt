@@ -15,7 +15,7 @@ use Rattle.hsm_answers.specs.Pins.{pin_of}
 use Rattle.hsm_answers.specs.Values.{row_value, chain_value, first_of}
 use Rattle.hsm_answers.specs.Plans.{IsPlanned, fields_text}
 use Rattle.hsm_commands.specs.declared.keys.OpenedKeys.{OpenedKeys}
-use Rattle.hsm_commands.specs.declared.terms.Held.{Held}
+use Rattle.hsm_commands.specs.declared.terms.HeldParts.{HeldParts}
 use Rattle.hsm_commands.specs.declared.plan.Plan.{Plan}
 use Rattle.hsm_commands.specs.Opened.{KeysStand, KeysHold}
 use Rattle.hsm_commands.specs.Demands.{AllMet, EachMet, parts_demands, pin_demands, check_demands, value_demands, word_demands, term_demands, IsLeft, have_pin, pin_there, pin_at_end, key_drawn, terms_room}
@@ -80,7 +80,7 @@ abbrev pub plan_read : Plan → ReadText
 plan_read p = read_text_of p.fields
 
 -- what is held for the reply fields
-pub record IsReady (m : Module) (rules : RowRules) (terms : List Term) (r : ReadText) (held : Held) : Type 0 where
+pub record IsReady (m : Module) (rules : RowRules) (terms : List Term) (r : ReadText) (held : HeldParts) : Type 0 where
   pub pin : AllMet m rules r held.keys (pin_demands rules.pin)
   pub left : IsLeft m rules r held.pin
   pub fields : EachMet m rules r held.keys (map (term_demands rules) terms)
@@ -88,7 +88,7 @@ pub record IsReady (m : Module) (rules : RowRules) (terms : List Term) (r : Read
   pub chain : written_text held.chain ≡ chain_value m rules r rules.value
 
 -- what is held, and the key and the PIN at the entry
-pub record IsAtEntry (m : Module) (rules : RowRules) (r : ReadText) (g : Granted) (held : Held) (drawn : Option (List (List ℕ))) (pin : Option (List ℕ)) : Type 0 where
+pub record IsAtEntry (m : Module) (rules : RowRules) (r : ReadText) (g : Granted) (held : HeldParts) (drawn : Option (List (List ℕ))) (pin : Option (List ℕ)) : Type 0 where
   pub left : IsLeft m rules r held.pin
   pub value : written_text held.value ≡ row_value m rules r rules.value
   pub chain : written_text held.chain ≡ chain_value m rules r rules.value

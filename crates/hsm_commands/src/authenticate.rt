@@ -7,7 +7,7 @@ ghost use Rattle.hsm_rows.specs.declared.rules.ValueSource.TheVariants.{MacOf};
 ghost use Rattle.hsm_answers.specs.Checks.{checks_fault};
 ghost use Rattle.hsm_answers.specs.Macs.{is_only, is_digit_at, mac_algorithm, mac_data, mac_fault, mac_padding, mac_start};
 ghost use Rattle.hsm_answers.specs.Values.{row_value, chain_value};
-ghost use Rattle.hsm_answers.specs.Plans.{number_of};
+ghost use Rattle.hsm_answers.specs.Plans.{code_number};
 ghost use Rattle.hsm_commands.specs.Macs.{AreMacTexts, ends_by, mac_asked, part_by, refused_by, value_under};
 ghost use Rattle.hsm_commands.specs.Demands.{value_demands};
 ghost use Rattle.hsm_commands.specs.Written.{written_text};
@@ -104,7 +104,7 @@ fn data_length(request: &Request<'_, '_>, f: &MacFields) -> usize
 
 // 80 for so many bytes of data.
 fn refused_by(only: bool, three: bool, pad: Pad, n: usize) -> Option<Code>
-    ensures { option_map number_of result ≡ refused_by only three pad n }
+    ensures { option_map code_number result ≡ refused_by only three pad n }
 {
     if n == 0 {
         return Some(Code(80));
@@ -122,7 +122,7 @@ fn refused_by(only: bool, three: bool, pad: Pad, n: usize) -> Option<Code>
 // 80 where the data has no MAC.
 pub(crate) fn mac_code(request: &Request<'_, '_>, f: &MacFields) -> Option<Code>
     requires { AreMacTexts (texts_of request.now) f.now }
-    ensures { option_map number_of result ≡ mac_fault (texts_of request.now) f.now }
+    ensures { option_map code_number result ≡ mac_fault (texts_of request.now) f.now }
 {
     let mode = text_of(request, f.mode);
     let n = data_length(request, f);

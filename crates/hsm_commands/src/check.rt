@@ -12,7 +12,7 @@ ghost use Rattle.hsm_answers.specs.Keys.{field_text, given_fault, key_data, key_
 ghost use Rattle.hsm_answers.specs.Checks.{act_permit, check_before, is_forbidden, is_used, parts_fault};
 ghost use Rattle.hsm_answers.specs.Given.{code_in};
 ghost use Rattle.hsm_answers.specs.Kept.{check_entries, checks_entries, entry_for};
-ghost use Rattle.hsm_answers.specs.Plans.{number_of};
+ghost use Rattle.hsm_answers.specs.Plans.{code_number};
 ghost use Rattle.hsm_commands.specs.declared.keys.OpenedKeys.{OpenedKeys};
 ghost use Rattle.hsm_commands.specs.Demands.{parts_demands};
 ghost use Rattle.hsm_commands.specs.Opened.{IsLmkKey, KeyStands, KeyHolds, KeysStand, KeysHold};
@@ -222,7 +222,7 @@ pub(crate) fn check_keys(
 
 // 29 where a permit that the row uses is N.
 pub(crate) fn permit_code(request: &Request<'_, '_>, acts: &[ActUse]) -> Option<Code>
-    ensures { option_map number_of result
+    ensures { option_map code_number result
         ≡ (if list_any (λ (a : ActUse). is_used (texts_of request.now) a.where_present && is_forbidden (act_permit (module_of request.now) (texts_of request.now) a)) acts.now then Some 29 else None) }
 {
     match acts {
@@ -241,7 +241,7 @@ pub(crate) fn permit_code(request: &Request<'_, '_>, acts: &[ActUse]) -> Option<
 #[tactic(auto, unfolding(hsm_answers::specs::Checks::parts_fault, hsm_answers::specs::Values::secret_key))]
 fn parts_code(request: &Request<'_, '_>, keys: &OpenedKeys) -> Option<Code>
     requires { Meets request.now keys.now (parts_demands (row_rules request.now).parts_differ) }
-    ensures { option_map number_of result ≡ parts_fault (module_of request.now) (row_rules request.now) (texts_of request.now) (row_rules request.now).parts_differ }
+    ensures { option_map code_number result ≡ parts_fault (module_of request.now) (row_rules request.now) (texts_of request.now) (row_rules request.now).parts_differ }
 {
     let key = match request.rules.parts_differ {
         None => return None,

@@ -5,7 +5,7 @@ ghost use Rattle.hsm_answers.specs.Keys.{first_code};
 ghost use Rattle.hsm_answers.specs.Pins.{pin_fault, pin_from};
 ghost use Rattle.hsm_answers.specs.Checks.{data_fault};
 ghost use Rattle.hsm_answers.specs.Given.{code_in};
-ghost use Rattle.hsm_answers.specs.Plans.{number_of};
+ghost use Rattle.hsm_answers.specs.Plans.{code_number};
 ghost use Rattle.hsm_commands.specs.Demands.{IsGiven, check_demands, given_demands, has_pin, have_pin, pin_after, pin_at_end};
 ghost use Rattle.hsm_commands.specs.Request.{Meets, MeetsEach, module_of, row_rules, texts_of};
 
@@ -14,7 +14,7 @@ use crate::clear::clear_pin;
 use crate::keys::{OpenedKeys, held_key};
 use crate::pins::{bad_table, longer, opened_pin, sent_pin, shorter};
 use crate::request::Request;
-use crate::texts::{block_of_field, digits_of, format_of, number_of, text_of};
+use crate::texts::{block_of_field, digits_of, format_of, number_at, text_of};
 use hsm_rows::{Code, DataCheck, PinSource};
 use hsm_types::Pin;
 
@@ -57,7 +57,7 @@ pub(crate) fn pin_given(
 
 // The code of a check of a PIN's length.
 fn code_of(code: Option<Code>, pin: Option<Pin>) -> Result<Option<Pin>, Code>
-    ensures fault { code_in result ≡ option_map number_of code }
+    ensures fault { code_in result ≡ option_map code_number code }
     ensures pin { IfOk result (λ p. p ≡ pin) }
 {
     match code {
@@ -88,12 +88,12 @@ fn check_one(
             Err(code) => Err(code),
         },
         DataCheck::LongerThan(k) => match pin {
-            Some(held) => code_of(longer(number_of(request, k), &held), pin),
+            Some(held) => code_of(longer(number_at(request, k), &held), pin),
             // a PIN's length is checked after the PIN
             None => unreachable!(),
         },
         DataCheck::ShorterThan(k) => match pin {
-            Some(held) => code_of(shorter(number_of(request, k), &held), pin),
+            Some(held) => code_of(shorter(number_at(request, k), &held), pin),
             // as above
             None => unreachable!(),
         },

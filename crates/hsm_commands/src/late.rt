@@ -10,15 +10,15 @@ ghost use Rattle.hsm_commands.specs.Request.{Meets, MeetsEach, Leaves, module_of
 use crate::given::check_data;
 use crate::keys::OpenedKeys;
 use crate::request::Request;
-use crate::terms::Held;
+use crate::terms::HeldParts;
 use crate::value::{Texts, compared_code, value_of};
 use hsm_rows::Code;
 use hsm_types::Pin;
 
-fn held_of(keys: &OpenedKeys, pin: &Option<Pin>, texts: &Texts) -> Held
+fn held_of(keys: &OpenedKeys, pin: &Option<Pin>, texts: &Texts) -> HeldParts
     ensures { result ≡ record { keys = keys.now; pin = pin.now; value = texts.now.value; chain = texts.now.chain } }
 {
-    Held {
+    HeldParts {
         keys: *keys,
         pin: *pin,
         value: texts.value,
@@ -28,7 +28,7 @@ fn held_of(keys: &OpenedKeys, pin: &Option<Pin>, texts: &Texts) -> Held
 
 // What the message holds, or the code of the first check after its entry that fails.
 #[tactic(auto, unfolding(hsm_answers::specs::Checks::check_after, hsm_answers::specs::Checks::checks_fault))]
-pub(crate) fn check_after(request: &Request<'_, '_>, keys: &OpenedKeys) -> Result<Held, Code>
+pub(crate) fn check_after(request: &Request<'_, '_>, keys: &OpenedKeys) -> Result<HeldParts, Code>
     requires checks { MeetsEach request.now keys.now (map (check_demands (row_rules request.now).pin) (row_rules request.now).checks) }
     requires have { have_pin false (row_rules request.now).checks ≡ true }
     requires value { Meets request.now keys.now (value_demands (row_rules request.now) (row_rules request.now).value) }

@@ -10,8 +10,8 @@ ghost use Rattle.hsm_commands.specs.Needs.{after_need};
 ghost use Rattle.hsm_commands.specs.Request.{Meets, Leaves, module_of, row_rules, texts_of};
 
 use crate::request::Request;
-use crate::terms::Held;
-use crate::texts::{format_of, number_of, text_of};
+use crate::terms::HeldParts;
+use crate::texts::{format_of, number_at, text_of};
 use crate::value::held_pin;
 use crate::written::fill_length;
 use hsm_answers::{host_activity, scheme_named, type_by_pair, type_of_code, wrapper_type};
@@ -115,7 +115,7 @@ pub(crate) fn needs_of(request: &Request<'_, '_>, acts: &[ActUse], needs: &[Fixe
 
 // The random words of a message of which no check fails.
 #[tactic(auto, unfolding(hsm_answers::specs::Values::word_count))]
-pub(crate) fn word_count(request: &Request<'_, '_>, held: &Held) -> u16
+pub(crate) fn word_count(request: &Request<'_, '_>, held: &HeldParts) -> u16
     requires stands { Meets request.now held.now.keys (word_demands (row_rules request.now) (row_rules request.now).words) }
     requires left { Leaves request.now held.now.pin }
     ensures words { result ≡ word_count (module_of request.now) (row_rules request.now) (texts_of request.now) (row_rules request.now).words }
@@ -124,7 +124,7 @@ pub(crate) fn word_count(request: &Request<'_, '_>, held: &Held) -> u16
     match request.rules.words {
         Words::NoWords => 0,
         Words::TwoPerPart(k) => 2 * scheme_parts(scheme_named(text_of(request, k))) as u16,
-        Words::AsLength(k) => number_of(request, k) as u16,
+        Words::AsLength(k) => number_at(request, k) as u16,
         Words::FillOf(k) => fill_length(
             format_of(request, k),
             &held_pin(request, &held.pin),

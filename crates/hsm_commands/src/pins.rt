@@ -4,7 +4,7 @@ ghost use Rattle.std.specs.List.{list_all};
 ghost use Rattle.std.specs.Option.{option_map};
 ghost use Rattle.hsm_types.specs.Pins.{is_decimal};
 ghost use Rattle.hsm_answers.specs.Given.{code_in};
-ghost use Rattle.hsm_answers.specs.Plans.{number_of};
+ghost use Rattle.hsm_answers.specs.Plans.{code_number};
 ghost use Rattle.hsm_commands.specs.Values.{sent_fault, sent_pin, longer_fault, shorter_fault, table_fault, sealed_fault, opened_pin};
 
 use hsm_lmk::LmkSet;
@@ -34,7 +34,7 @@ pub(crate) fn sent_pin(
 
 // 24 where the PIN has more digits.
 pub(crate) fn longer(most: usize, pin: &Pin) -> Option<Code>
-    ensures { option_map number_of result ≡ longer_fault most pin.now }
+    ensures { option_map code_number result ≡ longer_fault most pin.now }
 {
     if pin.digits().len() > most {
         Some(Code(24))
@@ -45,7 +45,7 @@ pub(crate) fn longer(most: usize, pin: &Pin) -> Option<Code>
 
 // 24 where the PIN has fewer digits.
 pub(crate) fn shorter(least: usize, pin: &Pin) -> Option<Code>
-    ensures { option_map number_of result ≡ shorter_fault least pin.now }
+    ensures { option_map code_number result ≡ shorter_fault least pin.now }
 {
     if pin.digits().len() < least {
         Some(Code(24))
@@ -57,7 +57,7 @@ pub(crate) fn shorter(least: usize, pin: &Pin) -> Option<Code>
 // 25 where the decimalisation table may not be used.
 pub(crate) fn bad_table(table: &[u8; 16]) -> Option<Code>
     requires { IsTrue (list_all is_decimal table.now) }
-    ensures { option_map number_of result ≡ table_fault table.now }
+    ensures { option_map code_number result ≡ table_fault table.now }
 {
     if table_ok(table) {
         None

@@ -19,7 +19,7 @@ use crate::keys::OpenedKeys;
 use crate::late::check_after;
 use crate::needs::{needs_of, word_count};
 use crate::request::Request;
-use crate::terms::{Entry, Held, key_at_entry, pin_at_entry, put_terms};
+use crate::terms::{Entry, HeldParts, key_at_entry, pin_at_entry, put_terms};
 use crate::value::Written;
 use arrayvec::ArrayVec;
 use hsm_answers::laws::{planned, planned_answer};
@@ -38,7 +38,7 @@ pub struct Plan<'m> {
     checked: Checked,
     // The texts and the trailer that were read: none where the fields don't read.
     fields: Fields<'m>,
-    held: Held,
+    held: HeldParts,
 }
 
 impl<'m> Plan<'m> {
@@ -51,8 +51,8 @@ impl<'m> Plan<'m> {
 }
 
 // Nothing is held.
-fn nothing() -> Held {
-    Held {
+fn nothing() -> HeldParts {
+    HeldParts {
         keys: OpenedKeys {
             first: None,
             second: None,
@@ -88,7 +88,7 @@ fn ask_with(request: &Request<'_, '_>, words: u16) -> Ask
 
 // The ask of a message of which no check after the entry fails.
 #[tactic(auto, unfolding(hsm_answers::specs::Asks::asked_words))]
-fn ask_of(request: &Request<'_, '_>, held: &Held) -> Ask
+fn ask_of(request: &Request<'_, '_>, held: &HeldParts) -> Ask
     requires kind { is_asked (row_rules request.now).ask ≡ true }
     requires words { Meets request.now held.now.keys (word_demands (row_rules request.now) (row_rules request.now).words) }
     requires left { Leaves request.now held.now.pin }

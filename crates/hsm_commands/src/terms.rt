@@ -13,7 +13,7 @@ ghost use Rattle.hsm_commands.specs.Entries.{Has, HasEach, Stands, public_at, te
 use crate::keys::{OpenedKeys, held_key};
 use crate::needs::type_of;
 use crate::request::Request;
-use crate::texts::{format_of, number_of, text_of};
+use crate::texts::{format_of, number_at, text_of};
 use crate::value::{Written, account_of, held_pin};
 use crate::written::{block_drawn, filled_to_twelve, put_sealed};
 use hsm_answers::{draw_key, draw_pin, first_of, put_block, put_key, scheme_named};
@@ -26,7 +26,7 @@ use hsm_types::{Pin, scheme_parts};
 
 // What a message's checks opened, read and made before its entry, each once.
 #[derive(Clone, Copy)]
-pub(crate) struct Held {
+pub(crate) struct HeldParts {
     pub(crate) keys: OpenedKeys,
     pub(crate) pin: Option<Pin>,
     pub(crate) value: Written,
@@ -37,7 +37,7 @@ pub(crate) struct Held {
 #[derive(Clone, Copy)]
 pub(crate) struct Entry<'a, 'm> {
     pub(crate) request: &'a Request<'a, 'm>,
-    pub(crate) held: &'a Held,
+    pub(crate) held: &'a HeldParts,
     pub(crate) granted: &'a Granted,
     pub(crate) key: Option<Key>,
     pub(crate) pin: Option<Pin>,
@@ -45,7 +45,7 @@ pub(crate) struct Entry<'a, 'm> {
 
 // The PIN at the entry: a drawn one has its words from the place on.
 #[tactic(auto, unfolding(hsm_answers::specs::Pins::pin_from))]
-pub(crate) fn pin_at_entry(request: &Request<'_, '_>, held: &Held, place: u64) -> Option<Pin>
+pub(crate) fn pin_at_entry(request: &Request<'_, '_>, held: &HeldParts, place: u64) -> Option<Pin>
     requires stands { Meets request.now held.now.keys (pin_demands (row_rules request.now).pin) }
     requires left { Leaves request.now held.now.pin }
     requires place { place < 2 ^ 63 }
@@ -56,7 +56,7 @@ pub(crate) fn pin_at_entry(request: &Request<'_, '_>, held: &Held, place: u64) -
         PinSource::DrawnPin { length, .. } => Some(draw_pin(
             request.module,
             place,
-            number_of(request, length),
+            number_at(request, length),
         )),
         PinSource::NoPin
         | PinSource::BlockPin { .. }

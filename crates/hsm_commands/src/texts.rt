@@ -39,7 +39,7 @@ pub(crate) fn block_of_field(request: &Request<'_, '_>, k: u8) -> u64
 
 // The number of the two decimal digits of field k.
 #[inline]
-pub(crate) fn number_of(request: &Request<'_, '_>, k: u8) -> usize
+pub(crate) fn number_at(request: &Request<'_, '_>, k: u8) -> usize
     ensures { result ≡ number_at (texts_of request.now) k }
 {
     two_digit_value(text_of(request, k))

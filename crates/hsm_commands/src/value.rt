@@ -9,7 +9,7 @@ ghost use Rattle.hsm_answers.specs.Pins.{given_pin, pin_account};
 ghost use Rattle.hsm_answers.specs.Values.{row_value, chain_value, index_at};
 ghost use Rattle.hsm_commands.specs.declared.value.Written.TheVariants.{Nothing};
 ghost use Rattle.hsm_answers.specs.Checks.{checks_fault, compared_fault};
-ghost use Rattle.hsm_answers.specs.Plans.{number_of};
+ghost use Rattle.hsm_answers.specs.Plans.{code_number};
 ghost use Rattle.hsm_commands.specs.Demands.{IsTwelveDigits, account_field, holds_pin, value_demands};
 ghost use Rattle.hsm_commands.specs.Written.{written_text};
 ghost use Rattle.hsm_commands.specs.Request.{Meets, Leaves, module_of, row_rules, texts_of};
@@ -18,7 +18,7 @@ use crate::authenticate::mac_texts;
 use crate::card::cvv_text;
 use crate::keys::{OpenedKeys, held_key};
 use crate::request::Request;
-use crate::texts::{digits_of, number_of, text_of};
+use crate::texts::{digits_of, number_at, text_of};
 use crate::values::{offset_text, pvv_text};
 use hsm_answers::{compared, pair_of};
 use hsm_rows::{Code, PinSource, ValueSource};
@@ -148,7 +148,7 @@ pub(crate) fn value_of(
             let account = account_of(request);
             let table = digits_of(request, table);
             let pvk = held_key(keys, pvk);
-            let check = number_of(request, check);
+            let check = number_at(request, check);
             let pin = held_pin(request, pin);
             alone(Written::Twelve(offset_text(
                 &pvk,
@@ -186,7 +186,7 @@ pub(crate) fn compared_code(
     value: &Written,
 ) -> Option<Code>
     requires { written_text value.now ≡ row_value (module_of request.now) (row_rules request.now) (texts_of request.now) (row_rules request.now).value }
-    ensures { option_map number_of result ≡ compared_fault (module_of request.now) (row_rules request.now) (texts_of request.now) field }
+    ensures { option_map code_number result ≡ compared_fault (module_of request.now) (row_rules request.now) (texts_of request.now) field }
 {
     match field {
         Some(k) => compared(text_of(request, k), value.text()),

@@ -14,7 +14,7 @@ use Rattle.hsm_answers.specs.Keys.{first_code}
 use Rattle.hsm_answers.specs.Checks.{check_before, check_after, check_read, entry_fault}
 use Rattle.hsm_answers.specs.Values.{values}
 use Rattle.hsm_answers.specs.Answers.{answer, host_answer, console_answer, console_body, no_code}
-use Rattle.hsm_answers.specs.Plans.{IsChecked, fault_at, number_of}
+use Rattle.hsm_answers.specs.Plans.{IsChecked, fault_at, code_number}
 use Rattle.hsm_console.specs.Commands.{words_refused, refuses_words}
 use Rattle.hsm_console.specs.Plans.{AreValues, console_text, text_after, good_text}
 
@@ -94,7 +94,7 @@ console_read m row (Ok r) g (Failed failed) trailer refused vs h w v =
     (ap (console_body m row r g) (failed_fault m row r g failed.0 h.fault))
 console_read m row (Ok r) g (Passed late) trailer refused vs h w v =
     by_words refused (refuses_words m (rules_of row) r) (console_body m row r g (check_read m (rules_of row) r g)) (text_after (fault_at (Passed late) g) g vs) w
-    (ap (console_body m row r g) (passed_fault m row r g (option_map number_of late) h.before h.after) ∙ text_of m row r g vs (fault_at (Passed late) g) v)
+    (ap (console_body m row r g) (passed_fault m row r g (option_map code_number late) h.before h.after) ∙ text_of m row r g vs (fault_at (Passed late) g) v)
 
 -- what a console text's checks came to, whether its words are refused, and its values tell its answer
 pub console_answered : (m : Module) (row : RowShape) (text : List ℕ) (g : Granted) (checked : Checked) (trailer : List ℕ) (refused : Bool) (vs : List (List ℕ))
