@@ -17,6 +17,9 @@ use Rattle.hsm_frame.specs.Laws.{HasReading}
 use Rattle.hsm_io.specs.Connections.{Traffic, Exchanges, IsSilent}
 use Rattle.hsm_io.specs.Gates as gates
 use Rattle.hsm_io.specs.Moments.{tick, after_now}
+use Rattle.hsm_answers.specs.Kept.{opened_of}
+use Rattle.hsm_lmk.specs.Cache.{kept_all}
+use Rattle.hsm_lmk.specs.Caches.{capacity_of, kept_in}
 use Rattle.hsm_rows.specs.declared.settings.Module.{Module}
 use Rattle.hsm_auth.specs.declared.activity.Place.{Place}
 use Rattle.hsm_session.specs.declared.serving.ConnEnd.{ConnEnd}
@@ -28,6 +31,7 @@ use Rattle.hsm_session.specs.Plans.{least_for}
 use Rattle.hsm_session.specs.Serving.{IsServing, Holding, EndsServing, Sends, SendsFront, Steps, holding, no_entry, one_more}
 use Rattle.hsm_session.proofs.Answering.{each_more}
 use Rattle.hsm_session.proofs.Gating.{gate_more, gate_none}
+use Rattle.hsm_session.proofs.Keeping.{keeps_more, keeps_none}
 use Rattle.hsm_session.proofs.Makings.{WordsAuthorise, booked_entry, clock_more, clock_none, counts_more, counts_none, hosts_more, hosts_none, makes_more, makes_none, zip_push}
 use Rattle.hsm_session.proofs.Streams.{bytes_right, frames_after}
 
@@ -108,6 +112,7 @@ going_starts m kind lane s sound = record {
   clock = clock_none s.last s.moments;
   gate = gate_none lane s.calls;
   counted = counts_none;
+  keeps = keeps_none m kind s.cache;
   hosts = λ host. hosts_none;
   told = λ t is. (t, is, [], exchanges_none t, refl);
 }
@@ -134,9 +139,10 @@ pub going_books : (m : Module) (kind : Place) (lane : ℕ) (start old new : Scen
     → ((c : List gates.GateCall) → old.calls ≡ Some c → between ≡ Some (c ++ gates.before lane count.messages ∷ []))
     → ((c : List gates.GateCall) → between ≡ Some c → new.calls ≡ Some (c ++ gates.after lane count.messages ∷ []))
     → new.traffic ≡ old.traffic
+    → capacity_of new.cache ≡ capacity_of old.cache → kept_in new.cache ≡ kept_all (capacity_of old.cache) (kept_in old.cache) (opened_of m kind message)
     → IsServing m kind lane start old (holding (frame message ++ rest) out count)
     → IsServing m kind lane start new (holding rest (out ++ frame reply) (one_more count place))
-going_books m kind lane start old new between message rest out reply count ask granted place words valid asked answered books own sound ticks first second same g =
+going_books m kind lane start old new between message rest out reply count ask granted place words valid asked answered books own sound ticks first second same room keeps g =
     let placed : ℕ × Entry = booked_entry old.pass new.last ask granted place in
     record {
       messages = g.messages ++ message ∷ [];
@@ -148,6 +154,7 @@ going_books m kind lane start old new between message rest out reply count ask g
       clock = clock_more start.last old.last new.last start.moments old.moments new.moments g.entries placed g.clock refl ticks;
       gate = gate_more lane count.messages start.calls old.calls between new.calls g.entries placed g.gate g.counted.messages first second;
       counted = counts_more count g.entries placed g.counted;
+      keeps = keeps_more m kind start.cache old.cache new.cache g.messages message g.keeps room keeps;
       hosts = hosts_more m kind message g.entries placed words asked g.hosts;
       told = λ s is.
           let t = g.told s is in
@@ -160,7 +167,7 @@ going_books m kind lane start old new between message rest out reply count ask g
 
 -- the scene at which this has passed over the link
 abbrev pub at_traffic : Scene → Option Traffic → Scene
-at_traffic s traffic = scene s.pass s.last s.moments s.calls traffic
+at_traffic s traffic = scene s.pass s.last s.moments s.calls traffic s.cache
 
 -- a part of what is gathered is written
 pub going_sends : (m : Module) (kind : Place) (lane : ℕ) (start now : Scene) (traffic : Option Traffic) (held out rest : List ℕ) (count : Count)
@@ -176,6 +183,7 @@ going_sends m kind lane start now traffic held out rest count sends g = record {
   clock = g.clock;
   gate = g.gate;
   counted = g.counted;
+  keeps = g.keeps;
   hosts = g.hosts;
   told = λ s is.
       let t = g.told s is in
@@ -217,6 +225,7 @@ going_reads m kind lane start now traffic held out piece count are reads g = rec
   clock = g.clock;
   gate = g.gate;
   counted = g.counted;
+  keeps = g.keeps;
   hosts = g.hosts;
   told = λ s is.
       let t = g.told s is in
@@ -262,6 +271,8 @@ over m kind lane start now held out count ended closes silent g = record {
   clock = g.clock;
   gate = g.gate;
   reported = record { messages = g.counted.messages; first = g.counted.first; last = g.counted.last };
+  keeps = g.keeps;
+  hits = refl;
   hosts = g.hosts;
   told = λ s is.
       let t = g.told s is in

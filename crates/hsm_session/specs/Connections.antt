@@ -1,9 +1,10 @@
 -- One connection: the messages that came over it, the entries that a pass made for them, and what was written.
-use Rattle.std.specs.Prelude.{◌≡◌, ◌⊎◌, ℕ, Bool, true, false, List, [], ◌∷◌, ◌++◌, length, slice_get, Option, Some, None}
+use Rattle.std.specs.Prelude.{◌≡◌, ◌⊎◌, ℕ, Bool, true, false, List, [], ◌∷◌, ◌++◌, length, flat_map, slice_get, Option, Some, None}
 use Rattle.std.specs.List.{AllZip}
 use Rattle.hsm_auth.specs.declared.entry.Ask.{Ask}
 use Rattle.hsm_auth.specs.declared.entry.Ask.TheVariants.{Use, Authorise, Cancel, CancelAll, Look, Recent}
 use Rattle.hsm_auth.specs.declared.entry.Entry.{Entry}
+use Rattle.hsm_answers.specs.Kept.{opened_of}
 use Rattle.hsm_answers.specs.Messages.{message_ask, message_answer}
 use Rattle.hsm_desk.specs.Passes.{PassView, Makes}
 use Rattle.hsm_frame.specs.Frames.{Frames, frame, StreamEnd, Whole, Part}
@@ -12,6 +13,9 @@ use Rattle.hsm_io.specs.Connections.{Traffic}
 use Rattle.hsm_io.specs.Gates.{GateCall, gate_calls}
 use Rattle.hsm_io.specs.Moments.{tick, after_calls}
 use Rattle.hsm_io.specs.Outside.{Rose}
+use Rattle.hsm_lmk.specs.Cache.{Kept, kept_all}
+use Rattle.hsm_lmk.specs.Caches.{capacity_of, kept_in}
+use Rattle.hsm_lmk.specs.declared.kept.KeyCache.{KeyCache}
 use Rattle.hsm_rows.specs.declared.settings.Module.{Module}
 use Rattle.hsm_auth.specs.declared.activity.Place.{Place}
 use Rattle.hsm_auth.specs.declared.activity.Place.TheVariants.{Host}
@@ -20,17 +24,18 @@ use Rattle.hsm_session.specs.declared.serving.ConnEnd.TheVariants.{Clean, Cut, S
 use Rattle.hsm_session.specs.declared.serving.Report.{Report}
 use Rattle.hsm_session.specs.Plans.{least_for}
 
--- What a lane and its connection show at one time: the pass, the moment that the clock gave last, and, where told, the
--- moments to come, the calls that the gate got, and what passed over the link.
+-- What a lane and its connection show at one time: the pass, the moment that the clock gave last, where told the moments to
+-- come, the calls that the gate got and what passed over the link, and the opened keys that are kept.
 pub record Scene : Type 0 where
   pub pass : PassView
   pub last : ℕ
   pub moments : Option (List ℕ)
   pub calls : Option (List GateCall)
   pub traffic : Option Traffic
+  pub cache : KeyCache
 
-abbrev pub scene : PassView → ℕ → Option (List ℕ) → Option (List GateCall) → Option Traffic → Scene
-scene pass last moments calls traffic = record { pass = pass; last = last; moments = moments; calls = calls; traffic = traffic }
+abbrev pub scene : PassView → ℕ → Option (List ℕ) → Option (List GateCall) → Option Traffic → KeyCache → Scene
+scene pass last moments calls traffic cache = record { pass = pass; last = last; moments = moments; calls = calls; traffic = traffic; cache = cache }
 
 -- the entry is that of the message: it has its ask
 abbrev pub IsEntryFor : Module → Place → List ℕ → ℕ × Entry → Type 0
@@ -124,6 +129,15 @@ pub record Reports (report : Report) (entries : List (ℕ × Entry)) : Type 0 wh
   pub first : report.first ≡ first_place entries
   pub last : report.last ≡ last_place None entries
 
+-- what a cache of this capacity keeps after these messages: the keys that each opened, one message after another
+abbrev pub kept_after : Module → Place → ℕ → Kept → List (List ℕ) → Kept
+kept_after m kind capacity kept messages = kept_all capacity kept (flat_map (opened_of m kind) messages)
+
+-- The cache keeps afterwards what it keeps after these messages, and its capacity stays.
+pub record Keeps (m : Module) (kind : Place) (before after : KeyCache) (messages : List (List ℕ)) : Type 0 where
+  pub capacity : capacity_of after ≡ capacity_of before
+  pub kept : kept_in after ≡ kept_after m kind (capacity_of before) (kept_in before) messages
+
 -- What serving a connection of the lane of this number did. The pass made one entry for each message, in their order, at the
 -- clock's moments, and the gate was called around each; where the link tells what passed over it, these are the messages of
 -- the bytes read, and what was written are their answers at these entries. A host's messages authorise nothing.
@@ -135,6 +149,8 @@ pub record Serves (m : Module) (kind : Place) (lane : ℕ) (before after : Scene
   pub clock : AskClock before.last after.last before.moments after.moments entries
   pub gate : AskGate lane before.calls after.calls entries
   pub reported : Reports report entries
+  pub keeps : Keeps m kind before.cache after.cache messages
+  pub hits : report.hits ≡ (kept_in after.cache).hits
   pub hosts : kind ≡ Host → AuthoriseNothing entries
   pub told : (s : Traffic) → before.traffic ≡ Some s → (t : Traffic) × (after.traffic ≡ Some t) × Talks m kind s t messages entries report.ended
 

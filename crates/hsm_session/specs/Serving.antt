@@ -5,13 +5,14 @@ use Rattle.hsm_auth.specs.declared.entry.Entry.{Entry}
 use Rattle.hsm_desk.specs.Passes.{Makes}
 use Rattle.hsm_frame.specs.Frames.{IsMessage, frame}
 use Rattle.hsm_io.specs.Connections.{Traffic, Exchanges, IsSilent}
+use Rattle.hsm_lmk.specs.Caches.{kept_in}
 use Rattle.hsm_rows.specs.declared.settings.Module.{Module}
 use Rattle.hsm_auth.specs.declared.activity.Place.{Place}
 use Rattle.hsm_auth.specs.declared.activity.Place.TheVariants.{Host}
 use Rattle.hsm_session.specs.declared.serving.ConnEnd.{ConnEnd}
 use Rattle.hsm_session.specs.declared.serving.Count.{Count}
 use Rattle.hsm_session.specs.declared.serving.Report.{Report}
-use Rattle.hsm_session.specs.Connections.{AskClock, AskGate, AuthoriseNothing, EndCause, IsEntryFor, Scene, Serves, first_place, framed_answers, last_place}
+use Rattle.hsm_session.specs.Connections.{AskClock, AskGate, AuthoriseNothing, EndCause, IsEntryFor, Keeps, Scene, Serves, first_place, framed_answers, last_place}
 use Rattle.hsm_session.specs.Lanes.{AreBytes, IsWaiting}
 use Rattle.hsm_session.specs.Plans.{least_for}
 
@@ -54,7 +55,7 @@ abbrev pub holding : List ℕ → List ℕ → Count → Holding
 holding bytes out count = record { bytes = bytes; out = out; count = count }
 
 -- What serving did so far on the lane of this number: the messages among the bytes read were booked, and the bytes held
--- follow them; their answers are what was written and what is gathered.
+-- follow them; their answers are what was written and what is gathered; the keys that they opened are kept.
 pub record IsServing (m : Module) (kind : Place) (lane : ℕ) (start now : Scene) (h : Holding) : Type 0 where
   pub messages : List (List ℕ)
   pub entries : List (ℕ × Entry)
@@ -65,17 +66,18 @@ pub record IsServing (m : Module) (kind : Place) (lane : ℕ) (start now : Scene
   pub clock : AskClock start.last now.last start.moments now.moments entries
   pub gate : AskGate lane start.calls now.calls entries
   pub counted : Counts h.count entries
+  pub keeps : Keeps m kind start.cache now.cache messages
   pub hosts : kind ≡ Host → AuthoriseNothing entries
   pub told : (s : Traffic) → start.traffic ≡ Some s → (t : Traffic) × (now.traffic ≡ Some t) × (said : List ℕ)
       × Exchanges s t (flat_map frame messages ++ h.bytes) said × (framed_answers m kind messages entries ≡ said ++ h.out)
 
--- the report of a connection that ended so
-abbrev pub report_of : Count → ConnEnd → Report
-report_of count ended = record { ended = ended; messages = count.messages; first = count.first; last = count.last }
+-- the report of a connection that ended so, with these hits of the cache
+abbrev pub report_of : Count → ConnEnd → ℕ → Report
+report_of count ended hits = record { ended = ended; messages = count.messages; first = count.first; last = count.last; hits = hits }
 
 -- what serving did in all
 abbrev pub EndsServing : Module → Place → ℕ → Scene → Scene → Count → ConnEnd → Type 0
-EndsServing m kind lane start now count ended = Serves m kind lane start now (report_of count ended)
+EndsServing m kind lane start now count ended = Serves m kind lane start now (report_of count ended (kept_in now.cache).hits)
 
 -- What a part of the work did to a connection that nothing had ended: it goes on and waits for more bytes, or it ended.
 abbrev pub Steps : Module → Place → ℕ → Scene → Scene → Holding → Holding → Option ConnEnd → Type 0

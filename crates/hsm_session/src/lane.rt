@@ -11,35 +11,43 @@ ghost use Rattle.hsm_session.specs.Plans.{least_for, least_length};
 ghost use Rattle.hsm_auth.specs.History.{IsKnown};
 ghost use Rattle.hsm_session.specs.Booking.{IsBooked, BooksAll, BooksFront, BooksSome, IsAnswered, console_line, entry_of, lane_words, reply_line, reply_of};
 ghost use Rattle.hsm_session.specs.Runs.{closed_line, end_line, is_cut, is_short, last_line, short_line};
-ghost use Rattle.hsm_session.specs.Lanes.{Drains, FeedsPiece, StopsDraining, StopsPiece, lane_end};
+ghost use Rattle.hsm_session.specs.Lanes.{Drains, FeedsPiece, IsCacheOf, StopsDraining, StopsPiece, lane_end};
 
-use crate::plans::{finish, prepare};
+use crate::plans::{finish, prepare_cached};
 use crate::text::{append, append_hex};
 use arrayvec::ArrayVec;
 use hsm_auth::{Ledger, Place};
 use hsm_frame::laws::has_one_reading;
 use hsm_frame::{Frames, Next, frame_into};
 use hsm_io::{OutFailed, Sink, write_all};
+use hsm_lmk::KeyCache;
 use hsm_rows::Module;
 use hsm_text::Reply;
 use itoa::Buffer;
+use std::alloc::{AllocError, Global};
 
-/// The room in which replies and lines are put together.
+/// The room in which replies and lines are put together, and the keys that were opened last.
 #[derive(Drop)]
 pub struct Buffers {
+    cache: KeyCache,
     reply: Reply,
     frame: ArrayVec<u8, 65537>,
     line: ArrayVec<u8, 131_200>,
 }
 
 impl Buffers {
-    /// Empty buffers.
-    pub fn new() -> Buffers {
-        Buffers {
+    /// Empty buffers, and a cache for 64 keys, which keeps none yet.
+    pub fn new(alloc: Global, module: &Module) -> Result<Buffers, AllocError>
+        ensures { IfOk result (λ buffers. IsCacheOf «module».now buffers.cache) }
+    {
+        let _ = module;
+        let cache = KeyCache::new(alloc, 64)?;
+        Ok(Buffers {
+            cache,
             reply: Reply::new(),
             frame: ArrayVec::new(),
             line: ArrayVec::new(),
-        }
+        })
     }
 
     // Books the ask of a message, and puts its answer in the place of the reply.
@@ -56,9 +64,11 @@ impl Buffers {
         requires moment { moment ≤ 2 ^ 40 }
         requires least { least_for «module».now kind ≤ length message.now }
         requires most { length message.now ≤ 65535 }
-        ensures { (h : List Entry) → StandsFor ledger.old h → IsAnswered «module».now kind moment message.now ledger.old ledger.new self.new.reply h }
+        requires cache { IsCacheOf «module».now self.old.cache }
+        ensures answered { (h : List Entry) → StandsFor ledger.old h → IsAnswered «module».now kind moment message.now ledger.old ledger.new self.new.reply h }
+        ensures cache { IsCacheOf «module».now self.new.cache }
     {
-        let plan = prepare(module, kind, message);
+        let plan = prepare_cached(module, &mut self.cache, kind, message);
         let granted = ledger.step(moment, &plan.ask());
         finish(module, &plan, &granted, &mut self.reply);
     }
@@ -69,6 +79,7 @@ impl Buffers {
         ensures short { array_vec_len self.new.line ≤ 50 }
         ensures reply { self.new.reply ≡ self.old.reply }
         ensures frame { self.new.frame ≡ self.old.frame }
+        ensures cache { self.new.cache ≡ self.old.cache }
     {
         let mut digits = Buffer::new();
         self.line.clear();
@@ -91,6 +102,8 @@ impl Buffers {
         requires moment { moment ≤ 2 ^ 40 }
         requires least { least_length «module».now ≤ length message.now }
         requires most { length message.now ≤ 65535 }
+        requires cache { IsCacheOf «module».now self.old.cache }
+        ensures cache { IsCacheOf «module».now self.new.cache }
         ensures booked { OnOk result (BooksAll «module».now number moment (message.now ∷ []) ledger.old ledger.new (S.stands_for out.old) (S.stands_for out.new)) }
         ensures part { OnErr result (BooksSome «module».now number moment (message.now ∷ []) ledger.old ledger.new (S.stands_for out.old) (S.stands_for out.new)) }
         ensures failed { OnErr result (Rose (S.faults out.old) (S.faults out.new)) }
@@ -117,6 +130,8 @@ impl Buffers {
         requires moment { moment ≤ 2 ^ 40 }
         requires least { 1 ≤ length text.now }
         requires most { length text.now ≤ 65535 }
+        requires cache { IsCacheOf «module».now self.old.cache }
+        ensures cache { IsCacheOf «module».now self.new.cache }
         ensures booked { OnOk result ((h : List Entry) → StandsFor ledger.old h →
             IsBooked h (entry_of «module».now Console moment h text.now ∷ []) (console_line (reply_of «module».now Console moment h text.now))
             ledger.new (S.stands_for out.old) (S.stands_for out.new)) }
@@ -142,6 +157,7 @@ impl Buffers {
         out: &mut S,
     ) -> Result<(), OutFailed>
         requires { length words.now ≤ 100 }
+        ensures cache { self.new.cache ≡ self.old.cache }
         ensures ok { OnOk result (Appends (S.stands_for out.old) (S.stands_for out.new) (lane_words number ++ words.now)) }
         ensures front { OnErr result (AppendsFront (S.stands_for out.old) (S.stands_for out.new) (lane_words number ++ words.now)) }
         ensures failed { OnErr result (Rose (S.faults out.old) (S.faults out.new)) }
@@ -160,6 +176,7 @@ impl Buffers {
         length: u64,
         out: &mut S,
     ) -> Result<(), OutFailed>
+        ensures cache { self.new.cache ≡ self.old.cache }
         ensures ok { OnOk result (Appends (S.stands_for out.old) (S.stands_for out.new) (short_line number length)) }
         ensures front { OnErr result (AppendsFront (S.stands_for out.old) (S.stands_for out.new) (short_line number length)) }
         ensures failed { OnErr result (Rose (S.faults out.old) (S.faults out.new)) }
@@ -220,6 +237,8 @@ fn answer_held<S: Sink>(
     requires moment { moment ≤ 2 ^ 40 }
     requires least { frames.old.least ≡ least_length «module».now }
     requires room { length frames.old.bytes ≤ 65537 }
+    requires cache { IsCacheOf «module».now buffers.old.cache }
+    ensures cache { IsCacheOf «module».now buffers.new.cache }
     ensures drains { IfOk result (Drains «module».now number moment frames.old frames.new ledger.old ledger.new (S.stands_for out.old) (S.stands_for out.new)) }
     ensures stops { OnErr result (StopsDraining «module».now number moment frames.old ledger.old ledger.new (S.stands_for out.old) (S.stands_for out.new)) }
     ensures failed { OnErr result (Rose (S.faults out.old) (S.faults out.new)) }
@@ -274,6 +293,8 @@ impl ScriptLane {
         requires moment { moment ≤ 2 ^ 40 }
         requires least { self.old.frames.least ≡ least_length «module».now }
         requires held { length self.old.frames.bytes < 65537 }
+        requires cache { IsCacheOf «module».now buffers.old.cache }
+        ensures cache { IsCacheOf «module».now buffers.new.cache }
         ensures feeds { IfOk result (λ answered. FeedsPiece «module».now moment self.old self.new piece.now answered ledger.old ledger.new (S.stands_for out.old) (S.stands_for out.new)) }
         ensures stops { OnErr result (StopsPiece «module».now moment self.old piece.now ledger.old ledger.new (S.stands_for out.old) (S.stands_for out.new)) }
         ensures failed { OnErr result (Rose (S.faults out.old) (S.faults out.new)) }

@@ -7,7 +7,7 @@ ghost use Rattle.hsm_auth.specs.History.{IsKnown};
 ghost use Rattle.hsm_session.specs.Reading.{said_of};
 ghost use Rattle.hsm_session.specs.Scripts.{Said, Piece};
 ghost use Rattle.hsm_session.specs.declared.lane.ScriptLane.{ScriptLane};
-ghost use Rattle.hsm_session.specs.Lanes.{Ends, IsAt, IsLine, StopsLine, TakesLine, run_end, all_held, weight};
+ghost use Rattle.hsm_session.specs.Lanes.{Ends, IsAt, IsCacheOf, IsLine, StopsLine, TakesLine, run_end, all_held, weight};
 
 use crate::lane::{Buffers, ScriptLane};
 use crate::lines::Line;
@@ -64,6 +64,8 @@ impl Run {
         requires moment { self.old.moment ≤ 2 ^ 40 }
         requires line { IsLine «module».now.hosts (said_of line.now) }
         requires room { self.old.entries + all_held self.old.lanes.items + weight (said_of line.now) < 2 ^ 64 }
+        requires cache { IsCacheOf «module».now buffers.old.cache }
+        ensures cache { IsCacheOf «module».now buffers.new.cache }
         ensures takes { OnOk result (TakesLine «module».now self.old self.new (said_of line.now) ledger.old ledger.new (S.stands_for out.old) (S.stands_for out.new)) }
         ensures stops { OnErr result (StopsLine «module».now self.old (said_of line.now) ledger.old ledger.new (S.stands_for out.old) (S.stands_for out.new)) }
         ensures moment { OnOk result (self.new.moment ≤ 2 ^ 40) }
@@ -102,6 +104,8 @@ impl Run {
         requires moment { self.old.moment ≤ 2 ^ 40 }
         requires lane { (1 ≤ number) × (number ≤ «module».now.hosts) }
         requires room { self.old.entries + all_held self.old.lanes.items + length piece.now < 2 ^ 64 }
+        requires cache { IsCacheOf «module».now buffers.old.cache }
+        ensures cache { IsCacheOf «module».now buffers.new.cache }
         ensures takes { OnOk result (TakesLine «module».now self.old self.new (Piece number piece.now) ledger.old ledger.new (S.stands_for out.old) (S.stands_for out.new)) }
         ensures stops { OnErr result (StopsLine «module».now self.old (Piece number piece.now) ledger.old ledger.new (S.stands_for out.old) (S.stands_for out.new)) }
         ensures moment { self.new.moment ≡ self.old.moment }

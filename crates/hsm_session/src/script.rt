@@ -58,7 +58,9 @@ pub fn script_run<S: Sink>(
     let Ok(mut run) = Run::open(alloc, module) else {
         return Err(ScriptFault::Memory);
     };
-    let mut buffers = Buffers::new();
+    let Ok(mut buffers) = Buffers::new(alloc, module) else {
+        return Err(ScriptFault::Memory);
+    };
     'lines: for line in &lines {
         match run.take_line(module, ledger, line, &mut buffers, out) {
             Ok(()) => {}

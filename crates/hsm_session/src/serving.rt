@@ -4,11 +4,11 @@ ghost use Rattle.std.specs.Prelude.{◌≡◌, ◌≤◌, ◌<◌, ◌+◌, ◌^
 ghost use Rattle.hsm_frame.specs.Frames.{frame};
 ghost use Rattle.hsm_io.specs.Connections.{IsSilent, Traffic};
 ghost use Rattle.hsm_session.specs.Connections.{EndCause, Scene, Serves, scene};
-ghost use Rattle.hsm_session.specs.Lanes.{AreBytes, IsWaiting};
+ghost use Rattle.hsm_session.specs.Lanes.{AreBytes, IsCacheOf, IsWaiting};
 ghost use Rattle.hsm_session.specs.Plans.{least_for};
-ghost use Rattle.hsm_session.specs.Serving.{IsServing, StepCause, Steps, holding, no_entry, one_more};
+ghost use Rattle.hsm_session.specs.Serving.{IsServing, StepCause, Steps, holding, no_entry, one_more, report_of};
 
-use crate::plans::{finish, prepare};
+use crate::plans::{finish, prepare_cached};
 use crate::replies::{gather, send};
 use arrayvec::ArrayVec;
 use hsm_answers::words_authorise;
@@ -17,6 +17,7 @@ use hsm_desk::{Desk, Pass};
 use hsm_frame::laws::has_one_reading;
 use hsm_frame::{Frames, Next};
 use hsm_io::{Clock, Gate, Got, Link};
+use hsm_lmk::KeyCache;
 use hsm_rows::Module;
 use hsm_text::Reply;
 use std::sync::Wait;
@@ -35,6 +36,8 @@ pub struct Tools<C, G> {
     pub out: ArrayVec<u8, 65537>,
     /// The number of the lane: 0 for the console, from 1 on for hosts.
     pub lane: u32,
+    /// The keys that were opened last; they stay from one connection to the next.
+    pub cache: KeyCache,
 }
 
 /// How a connection ended.
@@ -62,6 +65,8 @@ pub struct Report {
     pub first: Option<u64>,
     /// The place of the last.
     pub last: Option<u64>,
+    /// How often a key was found among the lane's kept ones, at the connection's end, of all connections so far.
+    pub hits: u64,
 }
 
 // How many messages were booked, and the places of the first and the last of their entries.
@@ -95,14 +100,15 @@ impl Count {
         self.last = Some(place);
     }
 
-    fn report(self, ended: ConnEnd) -> Report
-        ensures { result ≡ record { ended = ended; messages = self.messages; first = self.first; last = self.last } }
+    fn report(self, ended: ConnEnd, hits: u64) -> Report
+        ensures { result ≡ report_of self ended hits }
     {
         Report {
             ended,
             messages: self.messages,
             first: self.first,
             last: self.last,
+            hits,
         }
     }
 }
@@ -117,25 +123,28 @@ fn book_message<R: Wait, C: Clock, G: Gate, const N: usize>(
     pass: &mut Pass,
     clock: &mut C,
     gate: &mut G,
+    cache: &mut KeyCache,
     lane: u32,
     message: &[u8],
     reply: &mut Reply,
     count: &mut Count,
 )
+    requires agrees { IsCacheOf «module».now cache.old }
     requires desk { pass.old.desk ≡ desk.now }
     requires least { least_for «module».now kind ≤ length message.now }
     requires most { length message.now ≤ 65535 }
     requires counted { count.old.messages ≤ length pass.old.seen }
+    ensures agrees { IsCacheOf «module».now cache.new }
     ensures desk { pass.new.desk ≡ pass.old.desk }
     ensures counted { count.new.messages ≤ length pass.new.seen }
     ensures booked { (start : Scene) (traffic : Option Traffic) (rest out : List ℕ)
-        → IsServing «module».now kind lane start (scene pass.old (C.last clock.old) (C.to_come clock.old) (G.calls gate.old) traffic)
+        → IsServing «module».now kind lane start (scene pass.old (C.last clock.old) (C.to_come clock.old) (G.calls gate.old) traffic cache.old)
         (holding (frame message.now ++ rest) out count.old)
-        → IsServing «module».now kind lane start (scene pass.new (C.last clock.new) (C.to_come clock.new) (G.calls gate.new) traffic)
+        → IsServing «module».now kind lane start (scene pass.new (C.last clock.new) (C.to_come clock.new) (G.calls gate.new) traffic cache.new)
         (holding rest (out ++ frame reply.new) count.new) }
 {
     words_authorise();
-    let plan = prepare(module, kind, message);
+    let plan = prepare_cached(module, cache, kind, message);
     gate.before_book(lane, count.messages);
     let booked = desk.book(rt, pass, clock, &plan.ask());
     gate.after_book(lane, count.messages);
@@ -173,14 +182,16 @@ fn answer_messages<R: Wait, K: Link, C: Clock, G: Gate>(
     link: &mut K,
     count: &mut Count,
 ) -> Option<ConnEnd>
+    requires agrees { IsCacheOf «module».now tools.old.cache }
     requires desk { tools.old.pass.desk ≡ desk.now }
     requires least { tools.old.frames.least ≡ least_for «module».now kind }
     requires counted { count.old.messages ≤ length tools.old.pass.seen }
+    ensures agrees { IsCacheOf «module».now tools.new.cache }
     ensures desk { tools.new.pass.desk ≡ tools.old.pass.desk }
     ensures counted { count.new.messages ≤ length tools.new.pass.seen }
     ensures steps { Steps «module».now kind tools.old.lane
-        (scene tools.old.pass (C.last tools.old.clock) (C.to_come tools.old.clock) (G.calls tools.old.gate) (K.traffic link.old))
-        (scene tools.new.pass (C.last tools.new.clock) (C.to_come tools.new.clock) (G.calls tools.new.gate) (K.traffic link.new))
+        (scene tools.old.pass (C.last tools.old.clock) (C.to_come tools.old.clock) (G.calls tools.old.gate) (K.traffic link.old) tools.old.cache)
+        (scene tools.new.pass (C.last tools.new.clock) (C.to_come tools.new.clock) (G.calls tools.new.gate) (K.traffic link.new) tools.new.cache)
         (holding tools.old.frames.bytes tools.old.out.items count.old)
         (holding tools.new.frames.bytes tools.new.out.items count.new) result }
     ensures cause { StepCause (K.faults link.old) (K.faults link.new) (K.last_was_read link.new) result }
@@ -200,6 +211,7 @@ fn answer_messages<R: Wait, K: Link, C: Clock, G: Gate>(
                     &mut tools.pass,
                     &mut tools.clock,
                     &mut tools.gate,
+                    &mut tools.cache,
                     lane,
                     message,
                     &mut tools.reply,
@@ -238,15 +250,17 @@ fn serve_piece<R: Wait, K: Link, C: Clock, G: Gate>(
     link: &mut K,
     count: &mut Count,
 ) -> Option<ConnEnd>
+    requires agrees { IsCacheOf «module».now tools.old.cache }
     requires desk { tools.old.pass.desk ≡ desk.now }
     requires least { tools.old.frames.least ≡ least_for «module».now kind }
     requires waits { IsWaiting (least_for «module».now kind) tools.old.frames.bytes }
     requires counted { count.old.messages ≤ length tools.old.pass.seen }
+    ensures agrees { IsCacheOf «module».now tools.new.cache }
     ensures desk { tools.new.pass.desk ≡ tools.old.pass.desk }
     ensures counted { count.new.messages ≤ length tools.new.pass.seen }
     ensures steps { Steps «module».now kind tools.old.lane
-        (scene tools.old.pass (C.last tools.old.clock) (C.to_come tools.old.clock) (G.calls tools.old.gate) (K.traffic link.old))
-        (scene tools.new.pass (C.last tools.new.clock) (C.to_come tools.new.clock) (G.calls tools.new.gate) (K.traffic link.new))
+        (scene tools.old.pass (C.last tools.old.clock) (C.to_come tools.old.clock) (G.calls tools.old.gate) (K.traffic link.old) tools.old.cache)
+        (scene tools.new.pass (C.last tools.new.clock) (C.to_come tools.new.clock) (G.calls tools.new.gate) (K.traffic link.new) tools.new.cache)
         (holding tools.old.frames.bytes tools.old.out.items count.old)
         (holding tools.new.frames.bytes tools.new.out.items count.new) result }
     ensures cause { StepCause (K.faults link.old) (K.faults link.new) (K.last_was_read link.new) result }
@@ -277,8 +291,9 @@ fn serve_piece<R: Wait, K: Link, C: Clock, G: Gate>(
     }
 }
 
-/// Serves one connection to its end: each message is prepared, booked and answered. It takes no memory, and may wait for its
-/// turn at the desk. Replies are gathered, and written before a reply that no longer fits, before each read, and at the end.
+/// Serves one connection to its end: each message is prepared, booked and answered. A key that the lane keeps is not opened
+/// anew, and keys that messages open are kept. It takes no memory, and may wait for its turn at the desk. Replies are
+/// gathered, and written before a reply that no longer fits, before each read, and at the end.
 pub fn serve_link<R: Wait, K: Link, C: Clock, G: Gate>(
     rt: &R,
     module: &Module,
@@ -287,13 +302,15 @@ pub fn serve_link<R: Wait, K: Link, C: Clock, G: Gate>(
     tools: &mut Tools<C, G>,
     link: &mut K,
 ) -> Report
+    requires agrees { IsCacheOf «module».now tools.old.cache }
     requires desk { tools.old.pass.desk ≡ desk.now }
     requires least { tools.old.frames.least ≡ least_for «module».now kind }
     // Where the link tells, nothing of it was read or written.
     requires silent { IsSilent (K.traffic link.old) }
     ensures serves { Serves «module».now kind tools.old.lane
-        (scene tools.old.pass (C.last tools.old.clock) (C.to_come tools.old.clock) (G.calls tools.old.gate) (K.traffic link.old))
-        (scene tools.new.pass (C.last tools.new.clock) (C.to_come tools.new.clock) (G.calls tools.new.gate) (K.traffic link.new)) result }
+        (scene tools.old.pass (C.last tools.old.clock) (C.to_come tools.old.clock) (G.calls tools.old.gate) (K.traffic link.old) tools.old.cache)
+        (scene tools.new.pass (C.last tools.new.clock) (C.to_come tools.new.clock) (G.calls tools.new.gate) (K.traffic link.new) tools.new.cache) result }
+    ensures agrees { IsCacheOf «module».now tools.new.cache }
     ensures cause { EndCause (K.faults link.old) (K.faults link.new) (K.last_was_read link.new) result.ended }
     ensures lane { tools.new.lane ≡ tools.old.lane }
     ensures frames { tools.new.frames.least ≡ tools.old.frames.least }
@@ -304,7 +321,7 @@ pub fn serve_link<R: Wait, K: Link, C: Clock, G: Gate>(
     tools.out.clear();
     'pieces: for _ in rt.forever() {
         if let Some(ended) = serve_piece(rt, module, desk, kind, tools, link, &mut count) {
-            return count.report(ended);
+            return count.report(ended, tools.cache.hits());
         }
     }
     unreachable!()

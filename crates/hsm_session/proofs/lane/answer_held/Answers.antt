@@ -11,6 +11,7 @@ pub messages-init : goal.messages-init
 messages-init g c = record {
   answers = answers_none c.args.module.now c.args.number c.args.moment c.args.frames.now c.args.ledger.now (g.S.Sink.stands_for c.args.out.now);
   known = c.requires.known;
+  cache = c.requires.cache;
   kept = refl;
 }
 
@@ -25,6 +26,7 @@ messages-preserved g c =
           c.in-Message.message.now c.messages.invariant.answers held.0 held.1 held.2 printed.booked;
       known = still_known c.args.module.now c.args.number c.args.moment (c.in-Message.message.now ∷ []) c.messages.ledger c.print_answer.new.ledger
           (g.S.Sink.stands_for c.messages.out) (g.S.Sink.stands_for c.print_answer.new.out) printed.booked c.messages.invariant.known;
+      cache = c.print_answer.ensures.cache;
       kept = printed.kept ∙ c.messages.invariant.kept;
     }
 

@@ -22,6 +22,7 @@ lines-init g c =
       lines = within.0;
       moment = omega (arith, c.in-Ok.ensures.at.moment);
       known = c.facts.ensures.known;
+      cache = c.in-Ok-new.ensures;
       kept = refl;
     }
 
@@ -47,6 +48,7 @@ lines-preserved g c =
       lines = lines.1;
       moment = c.in-Ok-take_line.ensures.moment;
       known = so_far_known m all later c.take_line.new.self c.args.ledger.now c.take_line.new.ledger before after next c.facts.ensures.known;
+      cache = c.take_line.ensures.cache;
       kept = c.in-Ok-take_line.ensures.kept ∙ c.lines.invariant.kept;
     }
 

@@ -2,7 +2,7 @@ use Rattle.std.proofs.Common.{◌≡◌, ◌+◌, ◌≤◌, ◌^◌, sum_by, dr
 use Rattle.std.specs.List.{AllByRecursion}
 use Rattle.hsm_auth.specs.History.{IsKnown}
 use Rattle.hsm_session.specs.Reading.{all_said}
-use Rattle.hsm_session.specs.Lanes.{IsLine, all_held, weight}
+use Rattle.hsm_session.specs.Lanes.{IsCacheOf, IsLine, all_held, weight}
 use Rattle.hsm_session.proofs.Progress.{SoFar}
 use Rattle.hsm_session.proofs.script.script_run.Given as goal
 
@@ -14,5 +14,6 @@ invariant-lines g l = record {
   lines : AllByRecursion (IsLine l.module.hosts) (all_said (drop l.line-index l.line-items));
   moment : l.run.moment ≤ 2 ^ 40;
   known : IsKnown l.ledger;
+  cache : IsCacheOf l.module l.buffers.cache;
   kept : g.S.Sink.faults l.out ≡ g.S.Sink.faults l.initial.out;
 }

@@ -16,6 +16,7 @@ messages-preserved g c =
     let new = c.book_message.new in
     let traffic = g.K.Link.traffic c.messages.link in
     record {
+      agrees = c.book_message.ensures.agrees;
       desk = c.book_message.ensures.desk ∙ c.messages.invariant.desk;
       least = held.2 ∙ c.messages.invariant.least;
       counted = c.book_message.ensures.counted;
@@ -25,7 +26,7 @@ messages-preserved g c =
           let booked = c.book_message.ensures.booked start traffic left.bytes c.messages.tools.out.items
           (going_at m c.args.kind lane start _ _ _ _ _ held.1 (c.messages.invariant.going start begun)) in
           going_gathers m c.args.kind lane start
-          (scene new.pass (g.C.Clock.last new.clock) (g.C.Clock.to_come new.clock) (g.G.Gate.calls new.gate) traffic) (g.K.Link.traffic c.gather.new.link) left.bytes c.messages.tools.out.items _ _ c.bytes.result.now _
+          (scene new.pass (g.C.Clock.last new.clock) (g.C.Clock.to_come new.clock) (g.G.Gate.calls new.gate) traffic new.cache) (g.K.Link.traffic c.gather.new.link) left.bytes c.messages.tools.out.items _ _ c.bytes.result.now _
           c.bytes.ensures.bytes c.in-Ok.ensures.ok booked;
     }
 
@@ -51,7 +52,7 @@ returns-in-Ok-send-clause-steps g c = λ start silent begun.
     let short = rw c.in-Short.is at c.next.ensures.answer in
     let sent = going_sends m c.args.kind lane start _ traffic _ _ _ _ c.in-Ok-send.ensures.ok (c.messages.invariant.going start begun) in
     subst (λ (ended : ConnEnd). EndsServing m c.args.kind lane start
-    (scene tools.pass (g.C.Clock.last tools.clock) (g.C.Clock.to_come tools.clock) (g.G.Gate.calls tools.gate) traffic) c.messages.count ended)
+    (scene tools.pass (g.C.Clock.last tools.clock) (g.C.Clock.to_come tools.clock) (g.G.Gate.calls tools.gate) traffic tools.cache) c.messages.count ended)
     (sym c.end_short.ensures)
     (over_short m c.args.kind lane start _ _ _ c.in-Short.length (subst (λ (n : ℕ). IsShort n c.in-Short.length tools.frames.bytes) least short) silent sent)
 

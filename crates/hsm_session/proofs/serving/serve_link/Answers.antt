@@ -5,7 +5,7 @@ use Rattle.hsm_session.specs.declared.serving.Count.{Count}
 use Rattle.hsm_session.specs.declared.serving.Report.{Report}
 use Rattle.hsm_session.specs.Connections.{Serves, scene}
 use Rattle.hsm_session.specs.Plans.{least_for}
-use Rattle.hsm_session.specs.Serving.{StepCause, Steps, holding}
+use Rattle.hsm_session.specs.Serving.{StepCause, Steps, holding, report_of}
 use Rattle.hsm_session.proofs.Talking.{starts_at, waits_at_start}
 use Rattle.hsm_session.proofs.serving.serve_link.Goals as goal
 
@@ -15,6 +15,7 @@ pieces-init g c =
     let tools = c.args.tools.now in
     let none : c.reset.new.self.bytes ≡ [] = ap (λ (h : Held). h.bytes) c.reset.ensures in
     record {
+      agrees = c.requires.agrees;
       desk = c.requires.desk;
       least = ap (λ (h : Held). h.least) c.reset.ensures ∙ c.requires.least;
       waits = waits_at_start (least_for m c.args.kind) c.reset.new.self.bytes none;
@@ -22,7 +23,7 @@ pieces-init g c =
       kept = refl;
       lane = refl;
       going = starts_at m c.args.kind tools.lane
-          (scene tools.pass (g.C.Clock.last tools.clock) (g.C.Clock.to_come tools.clock) (g.G.Gate.calls tools.gate) (g.K.Link.traffic c.args.link.now))
+          (scene tools.pass (g.C.Clock.last tools.clock) (g.C.Clock.to_come tools.clock) (g.G.Gate.calls tools.gate) (g.K.Link.traffic c.args.link.now) tools.cache)
           c.reset.new.self.bytes c.clear.new.self.items c.new-count.result none c.clear.ensures c.new-count.ensures c.facts.ensures.sound;
     }
 
@@ -32,8 +33,8 @@ pieces-preserved g c =
     let kind = c.args.kind in
     let old = c.pieces.tools in
     let new = c.serve_piece.new.tools in
-    let earlier = scene old.pass (g.C.Clock.last old.clock) (g.C.Clock.to_come old.clock) (g.G.Gate.calls old.gate) (g.K.Link.traffic c.pieces.link) in
-    let now = scene new.pass (g.C.Clock.last new.clock) (g.C.Clock.to_come new.clock) (g.G.Gate.calls new.gate) (g.K.Link.traffic c.serve_piece.new.link) in
+    let earlier = scene old.pass (g.C.Clock.last old.clock) (g.C.Clock.to_come old.clock) (g.G.Gate.calls old.gate) (g.K.Link.traffic c.pieces.link) old.cache in
+    let now = scene new.pass (g.C.Clock.last new.clock) (g.C.Clock.to_come new.clock) (g.G.Gate.calls new.gate) (g.K.Link.traffic c.serve_piece.new.link) new.cache in
     let held = holding old.frames.bytes old.out.items c.pieces.count in
     let left = holding new.frames.bytes new.out.items c.serve_piece.new.count in
     let steps : Steps m kind c.args.tools.now.lane earlier now held left None =
@@ -43,6 +44,7 @@ pieces-preserved g c =
     subst (λ (ended : Option ConnEnd). StepCause (g.K.Link.faults c.pieces.link) (g.K.Link.faults c.serve_piece.new.link) (g.K.Link.last_was_read c.serve_piece.new.link) ended)
     c.in_default.is c.serve_piece.ensures.cause in
     record {
+      agrees = c.serve_piece.ensures.agrees;
       desk = c.serve_piece.ensures.desk ∙ c.pieces.invariant.desk;
       least = c.serve_piece.ensures.frames ∙ c.pieces.invariant.least;
       waits = steps.0;
@@ -56,8 +58,9 @@ pub returns-in-Some-serve_piece-clause-serves : goal.returns-in-Some-serve_piece
 returns-in-Some-serve_piece-clause-serves g c =
     let start = c.args.tools.now in
     let end = c.serve_piece.new.tools in
+    let end_count = c.serve_piece.new.count in
     let steps = rw c.pieces.invariant.lane at c.in-Some-serve_piece.ensures.steps in
     subst (λ (report : Report). Serves c.args.module.now c.args.kind start.lane
-    (scene start.pass (g.C.Clock.last start.clock) (g.C.Clock.to_come start.clock) (g.G.Gate.calls start.gate) (g.K.Link.traffic c.args.link.now))
-    (scene end.pass (g.C.Clock.last end.clock) (g.C.Clock.to_come end.clock) (g.G.Gate.calls end.gate) (g.K.Link.traffic c.serve_piece.new.link)) report)
-    (sym c.report.ensures) (steps _ c.requires.silent c.pieces.invariant.going)
+    (scene start.pass (g.C.Clock.last start.clock) (g.C.Clock.to_come start.clock) (g.G.Gate.calls start.gate) (g.K.Link.traffic c.args.link.now) start.cache)
+    (scene end.pass (g.C.Clock.last end.clock) (g.C.Clock.to_come end.clock) (g.G.Gate.calls end.gate) (g.K.Link.traffic c.serve_piece.new.link) end.cache) report)
+    (sym (c.report.ensures ∙ ap (λ (hits : ℕ). report_of end_count c.in-Some-serve_piece.ended hits) c.hits.ensures.value)) (steps _ c.requires.silent c.pieces.invariant.going)

@@ -15,7 +15,7 @@ returns-clause-booked g c =
     let reply = c.answer.new.self.reply in
     let text : c.deref-2.result.now ≡ reply_line c.args.number reply = grind (arith, common_steps) in
     on_ok c.write_all.result (Appends before after c.deref-2.result.now) (BooksAll m c.args.number c.args.moment (message ∷ []) c.args.ledger.now c.answer.new.ledger before after) c.write_all.ensures.ok
-    (books_one m c.args.number c.args.moment message reply c.deref-2.result.now c.args.ledger.now c.answer.new.ledger before after c.answer.ensures text)
+    (books_one m c.args.number c.args.moment message reply c.deref-2.result.now c.args.ledger.now c.answer.new.ledger before after c.answer.ensures.answered text)
 
 pub returns-clause-part : goal.returns-clause-part
 unfolding reply_line
@@ -27,4 +27,4 @@ returns-clause-part g c =
     let reply = c.answer.new.self.reply in
     let text : c.deref-2.result.now ≡ reply_line c.args.number reply = grind (arith, common_steps) in
     on_err c.write_all.result (AppendsFront before after c.deref-2.result.now) (BooksSome m c.args.number c.args.moment (message ∷ []) c.args.ledger.now c.answer.new.ledger before after) c.write_all.ensures.front
-    (some_one m c.args.number c.args.moment message reply c.deref-2.result.now c.args.ledger.now c.answer.new.ledger before after c.answer.ensures text)
+    (some_one m c.args.number c.args.moment message reply c.deref-2.result.now c.args.ledger.now c.answer.new.ledger before after c.answer.ensures.answered text)

@@ -21,7 +21,7 @@ returns-clause-booked g c =
     ((h : List Entry) → StandsFor c.args.ledger.now h
     → IsBooked h (entry_of m Console c.args.moment h message ∷ []) (console_line (reply_of m Console c.args.moment h message)) c.answer.new.ledger before after)
     c.write_all.ensures.ok
-    (λ printed h at. books_message m Console c.args.moment message reply c.deref.result.now console_line c.args.ledger.now c.answer.new.ledger before after h (c.answer.ensures h at) text printed)
+    (λ printed h at. books_message m Console c.args.moment message reply c.deref.result.now console_line c.args.ledger.now c.answer.new.ledger before after h (c.answer.ensures.answered h at) text printed)
 
 pub returns-clause-part : goal.returns-clause-part
 unfolding console_line
@@ -36,4 +36,4 @@ returns-clause-part g c =
     ((h : List Entry) → StandsFor c.args.ledger.now h
     → BooksFront h (entry_of m Console c.args.moment h message ∷ []) (console_line (reply_of m Console c.args.moment h message)) c.answer.new.ledger before after)
     c.write_all.ensures.front
-    (λ printed h at. front_message m Console c.args.moment message reply c.deref.result.now console_line c.args.ledger.now c.answer.new.ledger before after h (c.answer.ensures h at) text printed)
+    (λ printed h at. front_message m Console c.args.moment message reply c.deref.result.now console_line c.args.ledger.now c.answer.new.ledger before after h (c.answer.ensures.answered h at) text printed)

@@ -48,6 +48,7 @@ chunks-init g c = record {
   fed = ([], refl, feeds_none c.args.module.now c.args.moment c.args.self.now c.args.ledger.now (g.S.Sink.stands_for c.args.out.now));
   waits = λ before. before;
   known = c.requires.known;
+  cache = c.requires.cache;
   kept = refl;
 }
 
@@ -73,6 +74,7 @@ chunks-preserved g c =
       waits = λ before. subst (λ (n : ℕ). IsNotYet n c.answer_held.new.frames.bytes) least waiting.no_message;
       known = still_known m c.chunks.self.number moment drains.messages c.chunks.ledger c.answer_held.new.ledger (g.S.Sink.stands_for c.chunks.out) (g.S.Sink.stands_for c.answer_held.new.out)
           drains.booked c.chunks.invariant.known;
+      cache = c.answer_held.ensures.cache;
       kept = c.in_ok-drained.ensures.kept ∙ c.chunks.invariant.kept;
     }
 
