@@ -6,6 +6,8 @@ mod connections;
 #[cfg(test)]
 mod holding;
 #[cfg(test)]
+mod kept;
+#[cfg(test)]
 mod lanes;
 #[cfg(test)]
 mod rooms;

@@ -1,17 +1,13 @@
 // How much room the reads of a connection offer, and what was written before each of them.
-ghost use Rattle.std.specs.Prelude.{◌≡◌, false, None, IfOk};
-ghost use Rattle.hsm_auth.specs.declared.activity.Place.TheVariants.{Host};
-ghost use Rattle.hsm_session.specs.Plans.{least_for};
+ghost use Rattle.std.specs.Prelude.{◌≡◌, false, None};
 
+use crate::connections::tools_of;
 use arrayvec::ArrayVec;
 use hsm_auth::{Ledger, Place};
-use hsm_desk::{Desk, Pass};
-use hsm_frame::Frames;
-use hsm_io::{Got, Link, MemClock, OpenGate, Put};
+use hsm_desk::Desk;
+use hsm_io::{Got, Link, Put};
 use hsm_laboratory::{Set, module_of};
-use hsm_rows::Module;
-use hsm_session::{ConnEnd, Tools, least_message, serve_link};
-use hsm_text::Reply;
+use hsm_session::{ConnEnd, serve_link};
 use std::alloc::{Alloc, Global};
 use std::process::Abort;
 use std::sync::Wait;
@@ -50,23 +46,6 @@ impl Link for Noting {
         let _ = self.written.try_extend_from_slice(piece);
         Put::Took(piece.len())
     }
-}
-
-// What serves a host's connection, over this pass.
-fn tools_of(alloc: Global, module: &Module, pass: Pass) -> Result<Tools<MemClock, OpenGate>, Fail>
-    ensures least { IfOk result (λ tools. (tools.frames.least ≡ least_for «module».now Host) × (tools.pass ≡ pass)) }
-{
-    let mut moments = ArrayVec::new();
-    moments.push(7);
-    Ok(Tools {
-        pass,
-        clock: MemClock::new(moments),
-        gate: OpenGate,
-        frames: Frames::open(alloc, least_message(module, Place::Host))?,
-        reply: Reply::new(),
-        out: ArrayVec::new(),
-        lane: 1,
-    })
 }
 
 fn offers(rt: &(impl Abort + Alloc<A = Global> + Wait)) -> Result<(), Fail> {

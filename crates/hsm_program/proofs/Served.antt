@@ -156,6 +156,8 @@ ready m accept moments to_come ports desk lanes are k lane at =
     record {
       least = new.least ∙ ap (λ (n : ℕ). least_for m (place_of n)) (sym new.numbered);
       of_desk = ap (λ (p : PassView). p.desk) new.seated;
+      capacity = new.capacity;
+      no_key = new.no_key;
       none_out = new.none_out;
       no_report = new.no_report;
       no_fault = new.no_fault;

@@ -12,7 +12,7 @@ use Rattle.hsm_io.specs.Outside.{HasCause}
 use Rattle.hsm_rows.specs.declared.settings.Module.{Module}
 use Rattle.hsm_session.specs.declared.serving.Report.{Report}
 use Rattle.hsm_session.specs.Connections.{AuthoriseNothing, HaveMoments}
-use Rattle.hsm_server.specs.Lanes.{IsServed, IsToldBy, LaneState, LaneView, Ran, Served, TakesConnections, all_entries, all_reports, bytes_of, fault_count, place_of, message_count, risen}
+use Rattle.hsm_server.specs.Lanes.{CountsHits, IsServed, IsToldBy, LaneState, LaneView, Ran, Served, TakesConnections, all_entries, all_reports, bytes_of, fault_count, nothing_kept, place_of, message_count, risen}
 use Rattle.hsm_program.specs.Headline.{Headline, IsHeard, IsWritten, LaneHears, LaneRuns, OfEach, ServesInOrder, Setting, WhereTold, module_in}
 use Rattle.hsm_program.specs.Lanes.{IsNewLane}
 use Rattle.hsm_program.specs.Serving.{HasCauses, IsNamed}
@@ -86,6 +86,7 @@ lane_runs setting history k port pass before after one =
       entries = entries;
       each = subst (λ (n : ℕ). All (IsServed m (place_of n)) one.ran.connections) one.new.numbered one.ran.served.each;
       reports = reports_of setting history k port pass before after one;
+      hits = subst (λ (n : ℕ). CountsHits m (place_of n) 64 nothing_kept one.ran.connections) one.new.numbered one.ran.hits;
       moments = λ c is. subst (HaveMoments c) (sym entries) (one.ran.served.clock.told c (one.new.clock ∙ is)).0;
       written = λ came is.
           let t = told_of setting history k port pass before after one came is in

@@ -19,7 +19,7 @@ use Rattle.hsm_io.specs.Connections.{Doorway, Taken}
 use Rattle.hsm_rows.specs.declared.settings.Module.{Module}
 use Rattle.hsm_rows.specs.Reading.{ReadText}
 use Rattle.hsm_rows.specs.Table.{RowShape}
-use Rattle.hsm_server.specs.Lanes.{IsServed, LaneView, Served, all_entries, all_reports, bytes_of, place_of, message_count}
+use Rattle.hsm_server.specs.Lanes.{CountsHits, IsServed, LaneView, Served, all_entries, all_reports, bytes_of, nothing_kept, place_of, message_count}
 use Rattle.hsm_session.specs.Connections.{HaveMoments, Hears, Leaves, WritesAnswers, framed_answers}
 use Rattle.hsm_session.specs.Plans.{least_for}
 use Rattle.hsm_config.specs.Configs.{ports_of}
@@ -58,11 +58,13 @@ IsWritten m number served taken =
     WritesAnswers taken.traffic.written (framed_answers m (place_of number) served.messages served.entries) served.report.ended
 
 -- Each lane: it booked with its own number. The entries of that number are those of its connections' messages, one for each, in their order, with what
--- the message asks, at the moments that its clock was to give; and each connection was written the answers at these entries.
+-- the message asks, at the moments that its clock was to give; and each connection was written the answers at these entries. A report counts how often
+-- an opened key was found by the end of its connection, among the 64 that the lane keeps from one connection to the next.
 pub record LaneRuns (setting : Setting) (history : List Entry) (number port : ℕ) (lane : LaneView) (served : List Served) : Type 0 where
   pub entries : own number history ≡ all_entries served
   pub each : All (IsServed (module_in setting) (place_of number)) served
   pub reports : lane.reports ≡ all_reports served
+  pub hits : CountsHits (module_in setting) (place_of number) 64 nothing_kept served
   pub moments : (c : List ℕ) → setting.moments ≡ Some c → HaveMoments c (own number history)
   pub written : WhereTold (setting.to_come port) lane (λ came door. AllZip (IsWritten (module_in setting) number) served door.taken)
 

@@ -6,10 +6,11 @@ use Rattle.hsm_desk.specs.Passes.{PassView, Sound, KeepsOwn, kept_pass}
 use Rattle.hsm_io.specs.Connections.{Doorway}
 use Rattle.hsm_io.specs.Outside.{Rose}
 use Rattle.hsm_io.specs.Sides.{DoorSide}
+use Rattle.hsm_lmk.specs.Caches.{capacity_of, kept_in}
 use Rattle.hsm_rows.specs.declared.settings.Module.{Module}
 use Rattle.hsm_server.specs.declared.lane.Lane.{Lane}
 use Rattle.hsm_server.specs.declared.lane.LaneEnd.{LaneEnd}
-use Rattle.hsm_server.specs.Lanes.{LaneState, place_of}
+use Rattle.hsm_server.specs.Lanes.{LaneState, nothing_kept, place_of}
 use Rattle.hsm_session.specs.Plans.{least_for}
 use Rattle.hsm_program.specs.declared.lanes.LanesFault.{LanesFault}
 use Rattle.hsm_program.specs.declared.lanes.LanesFault.TheVariants.{Memory, Door}
@@ -49,6 +50,8 @@ pub record IsNewLane (m : Module) (accept : ℕ) (moments : Option (List ℕ)) (
   pub least : lane.least ≡ least_for m (place_of number)
   pub seated : lane.pass ≡ pass
   pub clock : lane.moments ≡ moments
+  pub capacity : capacity_of lane.cache ≡ 64
+  pub no_key : kept_in lane.cache ≡ nothing_kept
   pub doorway : IsUnasked to_come lane.doorway
   pub faults : lane.faults ≡ 0
   pub broken : lane.broken ≡ 0

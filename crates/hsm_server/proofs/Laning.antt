@@ -14,9 +14,13 @@ use Rattle.hsm_auth.specs.declared.activity.Place.{Place}
 use Rattle.hsm_session.specs.declared.serving.ConnEnd.{ConnEnd}
 use Rattle.hsm_session.specs.declared.serving.ConnEnd.TheVariants.{Clean, Cut, Short, ReadFault, WriteFault}
 use Rattle.hsm_session.specs.declared.serving.Report.{Report}
+use Rattle.hsm_lmk.specs.Cache.{Agrees, Kept}
+use Rattle.hsm_lmk.specs.Caches.{capacity_of, kept_in}
 use Rattle.hsm_session.specs.Connections.{EndCause, Scene, Serves, Talks, scene}
-use Rattle.hsm_server.specs.Lanes.{LaneState, Served, ServesAll, IsServed, IsToldBy, TakesConnections, all_calls, all_entries, all_reports, bytes_of, fault_count, is_fault, place_of, message_count, risen}
+use Rattle.hsm_session.specs.Lanes.{IsCacheOf}
+use Rattle.hsm_server.specs.Lanes.{CountsHits, LaneState, Served, ServesAll, IsServed, IsToldBy, TakesConnections, all_calls, all_entries, all_reports, bytes_of, fault_count, is_fault, nothing_kept, place_of, message_count, risen}
 use Rattle.hsm_server.proofs.Joining.{makes_none, makes_both, clock_none, clock_both, nothing_both}
+use Rattle.hsm_server.proofs.Keeping.{hits_more, keeps_more, keeps_none}
 
 -- one more item in each of two lists
 zip_push : {A B : Type 0} (R : A → B → Type 0) (xs : List A) (ys : List B) (x : A) (y : B) → AllZip R xs ys → R x y → AllZip R (xs ++ x ∷ []) (ys ++ y ∷ [])
@@ -108,13 +112,15 @@ serves_none m s sound = record {
   clock = clock_none s.last s.moments;
   gate = λ calls is. is ∙ ap (λ (cs : List GateCall). Some cs) (sym (append-nil calls));
   hosts = λ host i placed at. absurd (cc);
+  keeps = keeps_none m (place_of s.number) s.cache;
+  hits = λ j served at. absurd (cc);
   broken = omega arith;
   told = λ d is. (d, is, record { ended = []; taken = sym (append-nil d.taken); came = refl; each = tt });
 }
 
 -- what the lane and a connection over which this passed show
 abbrev pub scene_at : LaneState → Option Traffic → Scene
-scene_at s traffic = scene s.pass s.last s.moments s.calls traffic
+scene_at s traffic = scene s.pass s.last s.moments s.calls traffic s.cache
 
 -- one more connection
 pub serves_more : (m : Module) (start s t : LaneState) (connections : List Served) (between : Option Doorway) (broken_between : ℕ) (traffic_before traffic_after : Option Traffic)
@@ -132,6 +138,7 @@ serves_more m start s t connections between broken_between traffic_before traffi
     let kind = place_of start.number in
     let shown = fault_shown faults_before faults_after last_was_read report.ended new cause in
     let entries = entries_more connections served in
+    let keeps = keeps_more m kind start.cache s.cache t.cache connections served a.keeps serves.keeps in
     record {
       number = number ∙ a.number;
       accept = accept ∙ a.accept;
@@ -151,6 +158,8 @@ serves_more m start s t connections between broken_between traffic_before traffi
           (append_assoc calls (all_calls start.number connections) (gate_calls start.number 0 (length serves.entries))
           ∙ ap (λ (rest : List GateCall). calls ++ rest) (calls_more start.number connections served));
       hosts = λ host. rw (← entries) (nothing_both (all_entries connections) serves.entries (a.hosts host) (serves.hosts host));
+      keeps = keeps;
+      hits = hits_more m kind (capacity_of start.cache) (kept_in start.cache) connections served a.hits (serves.hits ∙ ap (λ (k : Kept). k.hits) keeps.kept);
       broken =
           broken_more start.broken broken_between t.broken (fault_count (all_reports connections)) faults_after (is_fault report.ended) (same ∙ a.broken) breaks shown
           ∙ ap (λ (times : ℕ). risen start.broken times)
@@ -163,6 +172,13 @@ serves_more m start s t connections between broken_between traffic_before traffi
           (_, takes _ n.4 w.0 w.1, tells_more m kind d e.0 connections served n.0 n.1 taken e.2 n.2 w.2 shown);
     }
 
+-- the hits of the reports, where the cache would keep 64 keys and kept none at the start
+hits_from_none : (m : Module) (start s : LaneState) (connections : List Served) → ServesAll m start s connections → capacity_of start.cache ≡ 64 → kept_in start.cache ≡ nothing_kept
+    → CountsHits m (place_of start.number) 64 nothing_kept connections
+hits_from_none m start s connections serves capacity none =
+    subst (λ (n : ℕ). CountsHits m (place_of start.number) n nothing_kept connections) capacity
+    (subst (λ (k : Kept). CountsHits m (place_of start.number) (capacity_of start.cache) k connections) none serves.hits)
+
 -- so many connections were served, and none is out
 pub record SoFar (m : Module) (start s : LaneState) (count : ℕ) : Type 0 where
   pub connections : List Served
@@ -171,10 +187,26 @@ pub record SoFar (m : Module) (start s : LaneState) (count : ℕ) : Type 0 where
   pub none_out : s.is_out ≡ false
   pub no_fault : s.door_fault ≡ false
   pub kept : s.faults ≡ start.faults
+  pub agrees : IsCacheOf m s.cache
+  pub capacity : capacity_of start.cache ≡ 64
+  pub no_key : kept_in start.cache ≡ nothing_kept
+  pub hits : CountsHits m (place_of start.number) 64 nothing_kept connections
 
 -- none was served yet
-pub far_none : (m : Module) (s : LaneState) → Sound s.pass → s.is_out ≡ false → s.door_fault ≡ false → SoFar m s s 0
-far_none m s sound out fault = record { connections = []; counted = refl; served = serves_none m s sound; none_out = out; no_fault = fault; kept = refl }
+pub far_none : (m : Module) (s : LaneState) → Sound s.pass → s.is_out ≡ false → s.door_fault ≡ false → capacity_of s.cache ≡ 64 → kept_in s.cache ≡ nothing_kept
+    → SoFar m s s 0
+far_none m s sound out fault capacity none = record {
+  connections = [];
+  counted = refl;
+  served = serves_none m s sound;
+  none_out = out;
+  no_fault = fault;
+  kept = refl;
+  agrees = subst (λ (k : Kept). Agrees m.lmk k.entries) (sym none) (λ k e within. absurd (omega (arith, within)));
+  capacity = capacity;
+  no_key = none;
+  hits = λ j served at. absurd (cc);
+}
 
 -- one more was served
 pub far_more : (m : Module) (start s t : LaneState) (count : ℕ) (kind : Place) (between : Option Doorway) (broken_between : ℕ) (traffic_before traffic_after : Option Traffic)
@@ -186,22 +218,27 @@ pub far_more : (m : Module) (start s t : LaneState) (count : ℕ) (kind : Place)
     → TakesBack between t.doorway traffic_after faults_after
     → broken_between ≡ s.broken → Breaks broken_between t.broken faults_after
     → t.number ≡ s.number → t.accept ≡ s.accept → t.least ≡ s.least → t.reports ≡ s.reports ++ report ∷ []
-    → t.is_out ≡ false → t.door_fault ≡ s.door_fault → t.faults ≡ s.faults
+    → t.is_out ≡ false → t.door_fault ≡ s.door_fault → t.faults ≡ s.faults → IsCacheOf m t.cache
     → SoFar m start t (count + 1)
-far_more m start s t count kind between broken_between traffic_before traffic_after faults_before faults_after last_was_read report f is serves cause new comes takes same breaks number accept least reports out fault faults =
+far_more m start s t count kind between broken_between traffic_before traffic_after faults_before faults_after last_was_read report f is serves cause new comes takes same breaks number accept least reports out fault faults agrees =
     let at_first = scene_at s traffic_before in
     let at_last = scene_at t traffic_after in
     let of_lane : Serves m (place_of start.number) start.number at_first at_last report =
     subst (λ (n : ℕ). Serves m (place_of start.number) n at_first at_last report) f.served.number
     (subst (λ (k : Place). Serves m k s.number at_first at_last report) is serves) in
     let served : Served = record { messages = of_lane.messages; entries = of_lane.entries; report = report } in
+    let all =
+    serves_more m start s t f.connections between broken_between traffic_before traffic_after faults_before faults_after last_was_read report
+    f.served of_lane cause new comes takes same breaks number accept least reports in
     record {
       connections = f.connections ++ served ∷ [];
       counted = length-append f.connections (served ∷ []) ∙ ap (λ (n : ℕ). n + 1) f.counted;
-      served =
-          serves_more m start s t f.connections between broken_between traffic_before traffic_after faults_before faults_after last_was_read report
-          f.served of_lane cause new comes takes same breaks number accept least reports;
+      served = all;
       none_out = out;
       no_fault = fault ∙ f.no_fault;
       kept = faults ∙ f.kept;
+      agrees = agrees;
+      capacity = f.capacity;
+      no_key = f.no_key;
+      hits = hits_from_none m start t (f.connections ++ served ∷ []) all f.capacity f.no_key;
     }

@@ -1,4 +1,5 @@
 pub mod Sent
 pub mod Halves
 pub mod Joining
+pub mod Keeping
 pub mod Laning

@@ -1,5 +1,5 @@
 -- A lane as contracts see it, and what a run leaves of it.
-use Rattle.std.specs.Prelude.{◌≡◌, ◌⊎◌, ℕ, ◌+◌, ◌-◌, ◌^◌, ◌<◌, ◌≤◌, ◌==◌, min, max, Bool, true, false, not, IsTrue, IsFalse, if◌then◌else◌, List, [], ◌++◌, length, map, flat_map, count_by, sum_by, slice_index_or, All, Option, Some}
+use Rattle.std.specs.Prelude.{◌≡◌, ◌⊎◌, ℕ, ◌+◌, ◌-◌, ◌^◌, ◌<◌, ◌≤◌, ◌==◌, min, max, Bool, true, false, not, IsTrue, IsFalse, if◌then◌else◌, List, [], ◌++◌, length, map, flat_map, count_by, sum_by, slice_get, slice_index_or, take, All, Option, Some}
 use Rattle.std.specs.List.{AllZip}
 use Rattle.atomic_table.specs.Seated.{TableId}
 use Rattle.hsm_auth.specs.declared.entry.Entry.{Entry}
@@ -7,21 +7,24 @@ use Rattle.hsm_desk.specs.Passes.{PassView, Makes}
 use Rattle.hsm_io.specs.Connections.{Doorway, Taken, silent}
 use Rattle.hsm_io.specs.Gates.{GateCall, gate_calls}
 use Rattle.hsm_io.specs.Outside.{HasCause}
+use Rattle.hsm_lmk.specs.Cache.{Kept}
+use Rattle.hsm_lmk.specs.Caches.{capacity_of, kept_in}
+use Rattle.hsm_lmk.specs.declared.kept.KeyCache.{KeyCache}
 use Rattle.hsm_rows.specs.declared.settings.Module.{Module}
 use Rattle.hsm_auth.specs.declared.activity.Place.{Place}
 use Rattle.hsm_auth.specs.declared.activity.Place.TheVariants.{Host, Console}
 use Rattle.hsm_session.specs.declared.serving.ConnEnd.{ConnEnd}
 use Rattle.hsm_session.specs.declared.serving.ConnEnd.TheVariants.{Clean, Cut, Short, ReadFault, WriteFault}
 use Rattle.hsm_session.specs.declared.serving.Report.{Report}
-use Rattle.hsm_session.specs.Connections.{IsEntryFor, AskClock, AuthoriseNothing, Reports, Talks}
+use Rattle.hsm_session.specs.Connections.{IsEntryFor, AskClock, AuthoriseNothing, Keeps, Reports, Talks, kept_after}
 use Rattle.hsm_session.specs.Plans.{least_for}
 use Rattle.hsm_server.specs.declared.lane.Lane.{Lane}
 use Rattle.hsm_server.specs.declared.lane.LaneEnd.{LaneEnd}
 
 -- A lane: its number, how many connections it serves at most, the least length of its messages, its pass, the moment that
--- its clock gave last and those to come, the calls that its gate got, what its door tells, how often the door failed, how
--- many connections that the door took back had failed, whether one is out, the reports, and whether the run ended by a
--- failure of the door.
+-- its clock gave last and those to come, the calls that its gate got, the opened keys that it keeps, what its door tells,
+-- how often the door failed, how many connections that the door took back had failed, whether one is out, the reports, and
+-- whether the run ended by a failure of the door.
 pub record LaneState : Type 0 where
   pub number : ℕ
   pub accept : ℕ
@@ -30,6 +33,7 @@ pub record LaneState : Type 0 where
   pub last : ℕ
   pub moments : Option (List ℕ)
   pub calls : Option (List GateCall)
+  pub cache : KeyCache
   pub doorway : Option Doorway
   pub faults : ℕ
   pub broken : ℕ
@@ -47,6 +51,7 @@ lane_state doorway faults broken is_out last to_come calls lane = record {
   last = last lane.tools.clock;
   moments = to_come lane.tools.clock;
   calls = calls lane.tools.gate;
+  cache = lane.tools.cache;
   doorway = doorway lane.door;
   faults = faults lane.door;
   broken = broken lane.door;
@@ -59,11 +64,17 @@ lane_state doorway faults broken is_out last to_come calls lane = record {
 abbrev pub place_of : ℕ → Place
 place_of number = if number == 0 then Console else Host
 
--- The least length is that of the lane's side, its pass is of the desk, no connection is out, and the lane was not served
--- before.
+-- what a cache keeps before a key was opened
+abbrev pub nothing_kept : Kept
+nothing_kept = record { entries = []; hits = 0 }
+
+-- The least length is that of the lane's side, its pass is of the desk, it will keep 64 opened keys and keeps none yet, no
+-- connection is out, and the lane was not served before.
 pub record IsReady (m : Module) (desk : TableId) (lane : LaneState) : Type 0 where
   pub least : lane.least ≡ least_for m (place_of lane.number)
   pub of_desk : lane.pass.desk ≡ desk
+  pub capacity : capacity_of lane.cache ≡ 64
+  pub no_key : kept_in lane.cache ≡ nothing_kept
   pub none_out : lane.is_out ≡ false
   pub no_report : lane.reports ≡ []
   pub no_fault : lane.door_fault ≡ false
@@ -73,6 +84,10 @@ pub record Served : Type 0 where
   pub messages : List (List ℕ)
   pub entries : List (ℕ × Entry)
   pub report : Report
+
+-- the messages of all these connections, in their order
+abbrev pub all_messages : List Served → List (List ℕ)
+all_messages connections = flat_map (λ served. served.messages) connections
 
 -- the entries of all these connections, in their order
 abbrev pub all_entries : List Served → List (ℕ × Entry)
@@ -85,6 +100,15 @@ all_reports connections = map (λ served. served.report) connections
 -- the calls of a gate for all these connections of the lane of this number, in their order: the messages of each are counted from 0
 abbrev pub all_calls : ℕ → List Served → List GateCall
 all_calls number connections = flat_map (λ served. gate_calls number 0 (length served.entries)) connections
+
+-- how often a key was found by the end of connection j, that one included, by a cache of this capacity that kept this before the first of them
+abbrev pub hits_by : Module → Place → ℕ → Kept → List Served → ℕ → ℕ
+hits_by m kind capacity kept connections j = (kept_after m kind capacity kept (all_messages (take (j + 1) connections))).hits
+
+-- each of the reports counts how often a key was found by the end of its connection
+abbrev pub CountsHits : Module → Place → ℕ → Kept → List Served → Type 0
+CountsHits m kind capacity kept connections =
+    (j : ℕ) (served : Served) → slice_get connections j ≡ Some served → served.report.hits ≡ hits_by m kind capacity kept connections j
 
 -- Each message has its entry, and the report counts the entries.
 pub record IsServed (m : Module) (kind : Place) (served : Served) : Type 0 where
@@ -129,8 +153,8 @@ pub record TakesConnections (m : Module) (kind : Place) (before after : Doorway)
   pub each : AllZip (IsToldBy m kind) connections ended
 
 -- A lane served these connections, one after another. Its pass made just their entries, for each of which the clock was
--- asked once, and around which the gate was called; a host's authorise nothing. The door counts a failed connection for each
--- report that names a fault.
+-- asked once, and around which the gate was called; a host's authorise nothing. It keeps the keys that all their messages
+-- opened, from one connection to the next. The door counts a failed connection for each report that names a fault.
 pub record ServesAll (m : Module) (before after : LaneState) (connections : List Served) : Type 0 where
   pub number : after.number ≡ before.number
   pub accept : after.accept ≡ before.accept
@@ -142,15 +166,19 @@ pub record ServesAll (m : Module) (before after : LaneState) (connections : List
   pub clock : AskClock before.last after.last before.moments after.moments (all_entries connections)
   pub gate : (calls : List GateCall) → before.calls ≡ Some calls → after.calls ≡ Some (calls ++ all_calls before.number connections)
   pub hosts : place_of before.number ≡ Host → AuthoriseNothing (all_entries connections)
+  pub keeps : Keeps m (place_of before.number) before.cache after.cache (all_messages connections)
+  pub hits : CountsHits m (place_of before.number) (capacity_of before.cache) (kept_in before.cache) connections
   pub broken : after.broken ≡ risen before.broken (fault_count (all_reports connections))
   pub told : (d : Doorway) → before.doorway ≡ Some d → (e : Doorway) × (after.doorway ≡ Some e) × TakesConnections m (place_of before.number) d e connections
 
 -- What a run leaves of a lane: it served connections until as many as it accepts were served, or the door ended or failed.
+-- The hits of its reports are those of a cache of 64 that kept nothing before the first of them.
 -- The door fails only before the last of them. Without a failure, where the door tells, all that were to come were served,
 -- or as many as are accepted.
 pub record Ran (m : Module) (before after : LaneState) : Type 0 where
   pub connections : List Served
   pub served : ServesAll m before after connections
+  pub hits : CountsHits m (place_of before.number) 64 nothing_kept connections
   pub none_out : after.is_out ≡ false
   pub most : length connections ≤ before.accept
   pub early : IsTrue after.door_fault → length connections < before.accept

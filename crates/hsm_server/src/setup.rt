@@ -1,6 +1,8 @@
 //! How a lane is made, and how it is taken apart.
 ghost use Rattle.std.specs.Prelude.{◌≡◌, [], false, IfOk, IfErr, Some};
 ghost use Rattle.hsm_io.specs.Connections.{Doorway};
+ghost use Rattle.hsm_lmk.specs.Caches.{capacity_of, kept_in};
+ghost use Rattle.hsm_server.specs.Lanes.{nothing_kept};
 
 use crate::lane::{Lane, LaneEnd};
 use crate::state::HasState;
@@ -8,13 +10,15 @@ use arrayvec::ArrayVec;
 use hsm_desk::Pass;
 use hsm_frame::Frames;
 use hsm_io::{Clock, Door, Gate};
+use hsm_lmk::KeyCache;
 use hsm_session::Tools;
 use hsm_text::Reply;
 use std::alloc::Global;
 
 impl<D: Door + Send + Drop, C: Clock + Send + Drop, G: Gate + Send + Drop> Lane<D, C, G> {
-    /// A lane that served no connection yet. All its memory is taken here: the frames, and places for as many reports as
-    /// it accepts connections. Want of memory is the one refusal. It hands the pass back, and drops the rest.
+    /// A lane that served no connection yet. All its memory is taken here: the frames, places for as many reports as it
+    /// accepts connections, and a cache of 64 opened keys. Want of memory is the one refusal. It hands the pass back, and
+    /// drops the rest.
     pub fn new(
         alloc: Global,
         number: u32,
@@ -36,6 +40,7 @@ impl<D: Door + Send + Drop, C: Clock + Send + Drop, G: Gate + Send + Drop> Lane<
           last = C.last clock;
           moments = C.to_come clock;
           calls = G.calls gate;
+          cache = lane.tools.cache;
           doorway = D.doorway door;
           faults = D.faults door;
           broken = D.broken door;
@@ -43,12 +48,17 @@ impl<D: Door + Send + Drop, C: Clock + Send + Drop, G: Gate + Send + Drop> Lane<
           reports = [];
           door_fault = false;
         }) }
+        ensures capacity { IfOk result (λ lane. capacity_of lane.tools.cache ≡ 64) }
+        ensures no_key { IfOk result (λ lane. kept_in lane.tools.cache ≡ nothing_kept) }
         ensures handed_back { IfErr result (λ given. given ≡ pass) }
     {
         let Ok(frames) = Frames::open(alloc, least) else {
             return Err(pass);
         };
         let Ok(reports) = Vec::with_capacity(alloc, usize::from(accept)) else {
+            return Err(pass);
+        };
+        let Ok(cache) = KeyCache::new(alloc, 64) else {
             return Err(pass);
         };
         Ok(Lane {
@@ -61,6 +71,7 @@ impl<D: Door + Send + Drop, C: Clock + Send + Drop, G: Gate + Send + Drop> Lane<
                 reply: Reply::new(),
                 out: ArrayVec::new(),
                 lane: number,
+                cache,
             },
             door,
             reports,
