@@ -27,6 +27,12 @@ fn told(over: &Over, lane: usize, connection: usize) -> Option<(ConnEnd, u64, &[
     Some((report.ended, report.messages, link.written()))
 }
 
+// How often a lane found a key that it keeps, by the end of this connection.
+fn hits(over: &Over, lane: usize, connection: usize) -> Option<u64> {
+    let end = over.ended.lanes.get(lane)?;
+    Some(end.reports.get(connection)?.hits)
+}
+
 fn serves(
     rt: &(impl Abort + Alloc<A = Global> + Threads + Wait + Sync),
     ports: &[Port<'_>],
@@ -85,6 +91,9 @@ fn hosts_of_several_connections(rt: HostRuntime) -> Result<(), Fail> {
     assert_eq!(rt; told(&over, 2, 1), Some((clean, 0, b"".as_slice())));
     assert_eq!(rt; told(&over, 2, 2), Some((clean, 1, ANSWERED)));
     assert!(rt; !over.ended.lanes.iter().any(|end| end.door_fault));
+    // Each lane keeps the keys of its own messages, from one connection to the next.
+    assert_eq!(rt; (hits(&over, 1, 0), hits(&over, 2, 0)), (Some(0), Some(1)));
+    assert_eq!(rt; (hits(&over, 2, 1), hits(&over, 2, 2)), (Some(1), Some(2)));
     Ok(())
 }
 
