@@ -1,17 +1,11 @@
 // Keys that a lane keeps from one connection to the next, and replies that leave together.
 use crate::connections::{Case, serves};
-use crate::lanes::{add, clock_of, door_of, run_all, take_last, told};
-use hsm_auth::Ledger;
-use hsm_desk::Desk;
-use hsm_io::{MemDoor, OpenGate};
-use hsm_laboratory::{Set, module_of};
+use crate::lanes::{runs_alone, told};
+use hsm_io::MemDoor;
+use hsm_laboratory::Set;
 use hsm_server::LaneEnd;
 use hsm_session::ConnEnd;
-use std::alloc::{Alloc, Global};
-use std::process::Abort;
-use std::sync::Wait;
 use std::test::Fail;
-use std::thread::Threads;
 
 // Under the test set: three frames that ask for the check value of one key, and their answers.
 const THRICE: (&[u8], &[u8]) = (
@@ -43,27 +37,6 @@ const TEN: (&[u8], &[u8]) = (
     \x00\x0E0001BV00D5D44F\x00\x0E0001BV00D5D44F\x00\x0E0001BV00D5D44F\x00\x0E0001BV00D5D44F\x00\x0E0001BV00D5D44F",
 );
 
-// A host's lane that serves a connection for each of these inputs, of which each comes in one piece.
-fn runs(
-    rt: &(impl Abort + Alloc<A = Global> + Threads + Wait + Sync),
-    set: Set,
-    inputs: &[&[u8]],
-) -> Result<LaneEnd<MemDoor>, Fail> {
-    let alloc = rt.alloc();
-    let module = module_of(alloc, set, 1).ok_or("module")?;
-    let (desk, mut pass) = Desk::new(alloc, Ledger::new(alloc)?)?;
-    let own = desk.split(&mut pass);
-    let door = door_of(alloc, inputs, 100, &[], &[])?;
-    let mut lanes = Vec::new(alloc);
-    let clock = clock_of(&[7, 8]);
-    add(
-        alloc, &module, &desk, &mut lanes, 1, 9, own, door, clock, OpenGate,
-    )?;
-    run_all(rt, &module, &desk, &mut lanes);
-    let end = take_last(&desk, &mut pass, &mut lanes).ok_or("lane")?;
-    Ok(end)
-}
-
 // Whether a connection ended cleanly with so many messages and these answers, and its report counts so many keys found.
 fn counts(end: &LaneEnd<MemDoor>, k: usize, messages: u64, written: &[u8], hits: u64) -> bool {
     let found = end.reports.get(k).map(|report| report.hits);
@@ -72,7 +45,7 @@ fn counts(end: &LaneEnd<MemDoor>, k: usize, messages: u64, written: &[u8], hits:
 
 #[test]
 fn keys_kept(rt: HostRuntime) -> Result<(), Fail> {
-    let end = runs(&rt, Set::T, &[THRICE.0, ONCE.0])?;
+    let (end, _) = runs_alone(&rt, Set::T, &[THRICE.0, ONCE.0], &[], 9)?;
     assert!(rt; counts(&end, 0, 3, THRICE.1, 2));
     assert!(rt; counts(&end, 1, 1, ONCE.1, 3));
     Ok(())
@@ -80,7 +53,7 @@ fn keys_kept(rt: HostRuntime) -> Result<(), Fail> {
 
 #[test]
 fn keys_of_one_text(rt: HostRuntime) -> Result<(), Fail> {
-    let end = runs(&rt, Set::E1, &[MOVED.0])?;
+    let (end, _) = runs_alone(&rt, Set::E1, &[MOVED.0], &[], 9)?;
     assert!(rt; counts(&end, 0, 1, MOVED.1, 1));
     Ok(())
 }

@@ -139,18 +139,20 @@ pub(crate) fn take_last<G: Gate + Send + Drop>(
     Some(end)
 }
 
-// Runs a lane of number 1 that accepts so many connections over a door of three, of which each has one message. Gives how
-// many were served and how many messages were booked, and whether the door failed.
-fn runs_alone(
+// Runs a lane of number 1 that accepts so many connections, over a door that gives one for each of these inputs and fails the
+// listed calls. Gives what became of it, and how many messages were booked.
+pub(crate) fn runs_alone(
     rt: &(impl Abort + Alloc<A = Global> + Threads + Wait + Sync),
+    set: Set,
+    inputs: &[&[u8]],
     bad_nexts: &[u32],
     accept: u16,
-) -> Result<(usize, u64, bool), Fail> {
+) -> Result<(LaneEnd<MemDoor>, u64), Fail> {
     let alloc = rt.alloc();
-    let module = module_of(alloc, Set::E1, 1).ok_or("module")?;
+    let module = module_of(alloc, set, 1).ok_or("module")?;
     let (desk, mut pass) = Desk::new(alloc, Ledger::new(alloc)?)?;
     let own = desk.split(&mut pass);
-    let door = door_of(alloc, &[ASKED, ASKED, ASKED], 100, &[], bad_nexts)?;
+    let door = door_of(alloc, inputs, 100, &[], bad_nexts)?;
     let mut lanes = Vec::new(alloc);
     let clock = clock_of(&[7, 8]);
     add(
@@ -158,18 +160,29 @@ fn runs_alone(
     )?;
     run_all(rt, &module, &desk, &mut lanes);
     let end = take_last(&desk, &mut pass, &mut lanes).ok_or("lane")?;
+    Ok((end, desk.close(pass)))
+}
+
+// Over a door of three connections, each with one message: how many were served, how many messages were booked, and whether
+// the door failed.
+fn served(
+    rt: &(impl Abort + Alloc<A = Global> + Threads + Wait + Sync),
+    bad_nexts: &[u32],
+    accept: u16,
+) -> Result<(usize, u64, bool), Fail> {
+    let (end, booked) = runs_alone(rt, Set::E1, &[ASKED, ASKED, ASKED], bad_nexts, accept)?;
     assert_eq!(rt; end.door.taken().len(), end.reports.len());
-    Ok((end.reports.len(), desk.close(pass), end.door_fault))
+    Ok((end.reports.len(), booked, end.door_fault))
 }
 
 #[test]
 fn doors(rt: HostRuntime) -> Result<(), Fail> {
-    assert_eq!(rt; runs_alone(&rt, &[], 5)?, (3, 3, false));
+    assert_eq!(rt; served(&rt, &[], 5)?, (3, 3, false));
     // The door fails at its second call, and is not asked again.
-    assert_eq!(rt; runs_alone(&rt, &[1], 5)?, (1, 1, true));
+    assert_eq!(rt; served(&rt, &[1], 5)?, (1, 1, true));
     // It is not asked again behind the last connection that is accepted, nor behind its end.
-    assert_eq!(rt; runs_alone(&rt, &[2], 2)?, (2, 2, false));
-    assert_eq!(rt; runs_alone(&rt, &[4], 5)?, (3, 3, false));
+    assert_eq!(rt; served(&rt, &[2], 2)?, (2, 2, false));
+    assert_eq!(rt; served(&rt, &[4], 5)?, (3, 3, false));
     Ok(())
 }
 
