@@ -20,4 +20,5 @@ pub mod CutPieces
 pub mod Limits
 pub mod Makings
 pub mod Gating
+pub mod Keeping
 pub mod Talking

@@ -91,41 +91,58 @@ fn enabled_console_row(module: &Module, word: &[u8]) -> Option<&'static Row>
     console_row(word)
 }
 
-// The plan of a host row's text.
+// The plan of a host's message in the row; the text is what follows the command code. It is made where it is handed out.
 fn plan_row<'m>(
     module: &Module,
     cache: &mut KeyCache,
     row: &'static Row,
+    message: &'m [u8],
     text: &'m [u8],
-) -> Planned<'m>
+) -> Plan<'m>
     requires agrees { Agrees «module».now.lmk (kept_in cache.old).entries }
     requires host { IsHostRow (shape_of row.now) }
-    ensures row { planned_row result ≡ Some (shape_of row.now) }
-    ensures text { planned_text result ≡ text.now }
-    ensures own { IsOwnPlan «module».now result }
-    ensures ask { planned_ask result ≡ ask_of «module».now (shape_of row.now) text.now }
-    ensures may { CanAsk (planned_ask result) }
+    ensures kind { plan_kind result ≡ Host }
+    ensures message { plan_message result ≡ message.now }
+    ensures row { planned_row result.planned ≡ Some (shape_of row.now) }
+    ensures text { planned_text result.planned ≡ text.now }
+    ensures own { IsOwnPlan «module».now result.planned }
+    ensures ask { plan_ask result ≡ ask_of «module».now (shape_of row.now) text.now }
+    ensures may { CanAsk (plan_ask result) }
     ensures agrees { Agrees «module».now.lmk (kept_in cache.new).entries }
     ensures capacity { capacity_of cache.new ≡ capacity_of cache.old }
     ensures kept { kept_in cache.new ≡ kept_all (capacity_of cache.old) (kept_in cache.old) (opened_by «module».now (shape_of row.now) text.now) }
 {
     host_rows_followed();
     match row.family {
-        Family::Key => Planned::Key(hsm_keycmd::prepare_cached(module, cache, row, text)),
-        Family::Pin => Planned::Pin(hsm_pincmd::prepare_cached(module, cache, row, text)),
-        Family::Data => Planned::Data(hsm_datacmd::prepare_cached(module, cache, row, text)),
+        Family::Key => Plan {
+            kind: Place::Host,
+            message,
+            planned: Planned::Key(hsm_keycmd::prepare_cached(module, cache, row, text)),
+        },
+        Family::Pin => Plan {
+            kind: Place::Host,
+            message,
+            planned: Planned::Pin(hsm_pincmd::prepare_cached(module, cache, row, text)),
+        },
+        Family::Data => Plan {
+            kind: Place::Host,
+            message,
+            planned: Planned::Data(hsm_datacmd::prepare_cached(module, cache, row, text)),
+        },
         // no host row is of the console's family
         Family::Console => unreachable!(),
     }
 }
 
 // The plan of a host's message.
-fn plan_host<'m>(module: &Module, cache: &mut KeyCache, message: &'m [u8]) -> Planned<'m>
+fn plan_host<'m>(module: &Module, cache: &mut KeyCache, message: &'m [u8]) -> Plan<'m>
     requires agrees { Agrees «module».now.lmk (kept_in cache.old).entries }
     requires least { least_length «module».now ≤ length message.now }
-    ensures plan { IsPlanOfMessage «module».now Host message.now result }
-    ensures ask { planned_ask result ≡ message_ask «module».now Host message.now }
-    ensures may { CanAsk (planned_ask result) }
+    ensures kind { plan_kind result ≡ Host }
+    ensures message { plan_message result ≡ message.now }
+    ensures plan { IsPlanOfMessage «module».now Host message.now result.planned }
+    ensures ask { plan_ask result ≡ message_ask «module».now Host message.now }
+    ensures may { CanAsk (plan_ask result) }
     ensures agrees { Agrees «module».now.lmk (kept_in cache.new).entries }
     ensures capacity { capacity_of cache.new ≡ capacity_of cache.old }
     ensures kept { kept_in cache.new ≡ kept_all (capacity_of cache.old) (kept_in cache.old) (opened_of «module».now Host message.now) }
@@ -133,8 +150,12 @@ fn plan_host<'m>(module: &Module, cache: &mut KeyCache, message: &'m [u8]) -> Pl
     let (_, command) = message.split_at(usize::from(module.header));
     let (code, text) = command.split_at(2);
     match enabled_row(module, &[code[0], code[1]]) {
-        Some(row) => plan_row(module, cache, row, text),
-        None => Planned::Unknown,
+        Some(row) => plan_row(module, cache, row, message, text),
+        None => Plan {
+            kind: Place::Host,
+            message,
+            planned: Planned::Unknown,
+        },
     }
 }
 
@@ -172,11 +193,7 @@ pub fn prepare_cached<'m>(
     ensures kept { kept_in cache.new ≡ kept_all (capacity_of cache.old) (kept_in cache.old) (opened_of «module».now kind message.now) }
 {
     match kind {
-        Place::Host => Plan {
-            kind,
-            message,
-            planned: plan_host(module, cache, message),
-        },
+        Place::Host => plan_host(module, cache, message),
         Place::Console => Plan {
             kind,
             message,

@@ -48,5 +48,5 @@ returns-in-Some-clause-plan c =
     let row = shape_of c.in-Some.row.now in
     let parts : IsCut m message code text =
     cut m message c.split_at.result.1.now code text c.from.result c.requires.least c.from.ensures c.split_at.ensures.back c.split_at-2.ensures.front c.split_at-2.ensures.back in
-    row_plan m Host message text row c.plan_row.result (code_row m message code text (Some row) parts (sym (ap (option_map shown_shape) c.in-Some.is) ∙ c.enabled_row.ensures.row))
+    row_plan m Host message text row c.plan_row.result.planned (code_row m message code text (Some row) parts (sym (ap (option_map shown_shape) c.in-Some.is) ∙ c.enabled_row.ensures.row))
     parts.is_text c.plan_row.ensures.row c.plan_row.ensures.text c.plan_row.ensures.own
