@@ -41,16 +41,19 @@ impl Prepared {
     pub fn of(key: &Key) -> Prepared
         ensures { result ≡ key.now }
     {
-        let schedules = match key.parts {
-            Parts::One(a) => Schedules::One(Schedule::new(a)),
-            Parts::Two(a, b) => Schedules::Two(Schedule::new(a), Schedule::new(b)),
-            Parts::Three(a, b, c) => {
-                Schedules::Three(Schedule::new(a), Schedule::new(b), Schedule::new(c))
-            }
-        };
-        Prepared {
-            key: *key,
-            schedules,
+        match &key.parts {
+            Parts::One(a) => Prepared {
+                key: *key,
+                schedules: Schedules::One(Schedule::new(*a)),
+            },
+            Parts::Two(a, b) => Prepared {
+                key: *key,
+                schedules: Schedules::Two(Schedule::new(*a), Schedule::new(*b)),
+            },
+            Parts::Three(a, b, c) => Prepared {
+                key: *key,
+                schedules: Schedules::Three(Schedule::new(*a), Schedule::new(*b), Schedule::new(*c)),
+            },
         }
     }
 
