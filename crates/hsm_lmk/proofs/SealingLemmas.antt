@@ -1,5 +1,5 @@
 -- Lemmas on sealing.
-use Rattle.std.proofs.Common.{◌≡◌, ℕ, zero, suc, ◌+◌, ◌-◌, ◌*◌, ◌^◌, ◌<◌, ◌≤◌, ◌∙◌, List, [], ◌∷◌, ◌++◌, length, get_or, set, take, drop, slice_get, slice_range, slice_index, Some, refl, sym, ap, ap₂, arith, drop-drop, take_at, drop_at, length-append, length-drop, length-take, w64, take-take}
+use Rattle.std.proofs.Common.{◌≡◌, ℕ, zero, suc, ◌+◌, ◌-◌, ◌*◌, ◌^◌, ◌<◌, ◌≤◌, ◌∙◌, List, [], ◌∷◌, ◌++◌, length, get_or, take, drop, slice_get, slice_range, slice_index, Some, refl, sym, ap, ap₂, arith, drop-drop, take_at, drop_at, length-append, length-drop, length-take, w64, take-take}
 use Rattle.std.specs.Int.{to_be_bytes, from_be_bytes}
 use Rattle.std.specs.List.{AllByRecursion}
 use Rattle.std.proofs.lemmas.Nat.{from_be_bytes-to_be_bytes_8}
@@ -34,28 +34,6 @@ three_under (x ∷ y ∷ z ∷ []) s i a b c d v len first second third by chang
     let same_d : d ≡ z = cc in
     ap₂ (λ (p q : List ℕ). p ∷ q ∷ d ∷ []) same_a (change ∙ ap₂ varied by same_b) ∙ ap (λ (r : List ℕ). x ∷ varied (slice_index (scheme_variants s) i) y ∷ r ∷ []) same_d
 three_under (x ∷ y ∷ z ∷ u ∷ more) s i a b c d v len first second third by change = absurd (omega arith)
-
--- the wrapping key for a part has as many parts
-pub length-under : (w : List (List ℕ)) (s : Scheme) (i : ℕ) → length (under w s i) ≡ length w
-length-under [] s i = refl
-length-under (a ∷ []) s i = refl
-length-under (a ∷ b ∷ more) s i = refl
-
--- where the variants of two parts are the same, so are the wrapping keys
-pub same_under : (w : List (List ℕ)) (s : Scheme) (i j : ℕ) → slice_index (scheme_variants s) i ≡ slice_index (scheme_variants s) j → under w s j ≡ under w s i
-same_under [] s i j same = refl
-same_under (a ∷ []) s i j same = refl
-same_under (a ∷ b ∷ more) s i j same = ap (λ (v : ℕ). a ∷ varied v b ∷ more) (sym same)
-
--- the wrapping key for another part has another second part
-pub set_under : (w : List (List ℕ)) (s : Scheme) (i j v : ℕ) (b c : List ℕ) → 2 ≤ length w
-    → slice_get w 1 ≡ Some b → v ≡ slice_index (scheme_variants s) i → c ≡ varied v b
-    → set (under w s j) 1 c ≡ under w s i
-set_under [] s i j v b c len second by change = absurd (omega arith)
-set_under (x ∷ []) s i j v b c len second by change = absurd (omega arith)
-set_under (x ∷ y ∷ more) s i j v b c len second by change =
-    let same : b ≡ y = cc in
-    ap (λ (p : List ℕ). x ∷ p ∷ more) (change ∙ ap₂ varied by same)
 
 -- a pair with a variant on its first byte
 pub pair_varied : (pair : List (List ℕ)) (v : ℕ) (a b c : List ℕ) → length pair ≡ 2
