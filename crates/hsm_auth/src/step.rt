@@ -1,11 +1,11 @@
 //! A step of the ledger's state.
-ghost use Rattle.std.specs.Prelude.{◌≡◌, ℕ, ◌+◌, ◌%◌, ◌^◌, ◌<◌, ◌≤◌, List, [], ◌∷◌, ◌++◌, IfOk, length, filter, if◌then◌else◌, ◌==◌, not};
+ghost use Rattle.std.specs.Prelude.{◌≡◌, false, ℕ, ◌+◌, ◌%◌, ◌^◌, ◌<◌, ◌≤◌, List, [], ◌∷◌, ◌++◌, IfOk, length, filter, if◌then◌else◌, ◌==◌, not};
 ghost use Rattle.std.specs.List.{list_any};
 ghost use Rattle.hsm_auth.specs.declared.entry.Ask.TheVariants.{Use, Authorise, Cancel, CancelAll, Look, Recent};
 ghost use Rattle.hsm_auth.specs.declared.entry.Entry.{Entry};
 ghost use Rattle.hsm_auth.specs.Activities.{same_activity, covers};
 ghost use Rattle.hsm_auth.specs.History.{entry, outcome, CanAsk, IsLegal, StandsFor, lasts, end_of, is_met, are_met, kind_of, is_good, other_count};
-ghost use Rattle.hsm_auth.specs.Steps.{view_of, ComesTo, Answers, Notes};
+ghost use Rattle.hsm_auth.specs.Steps.{view_of, ComesTo, Answers, Notes, drawn_answer, is_use_ask};
 
 use crate::activity::{Activity, covers};
 use crate::entry::{Ask, Grant, Granted, Kind, MAX_GRANTS, MAX_NOTES, Needs, Note};
@@ -63,12 +63,12 @@ fn is_covered(need: &Activity, grants: &[Grant]) -> bool
     grants.iter().any(|grant| covers(&grant.activity, need))
 }
 
-fn is_met(need: Option<Activity>, grants: &[Grant]) -> bool
-    ensures { result ≡ is_met need grants.now }
+fn is_met(need: &Option<Activity>, grants: &[Grant]) -> bool
+    ensures { result ≡ is_met need.now grants.now }
 {
     match need {
         None => true,
-        Some(need) => is_covered(&need, grants),
+        Some(need) => is_covered(need, grants),
     }
 }
 
@@ -96,7 +96,7 @@ impl Needs {
     fn are_met(&self, grants: &[Grant]) -> bool
         ensures { result ≡ are_met self.now grants.now }
     {
-        is_met(self.first, grants) && is_met(self.second, grants)
+        is_met(&self.first, grants) && is_met(&self.second, grants)
     }
 }
 
@@ -146,8 +146,17 @@ impl State {
         ensures legal { (h : List Entry) (pass : ℕ) → StandsFor (view_of self.old) h → IsLegal h → IsLegal (h ++ entry pass moment ask.now result ∷ []) }
     {
         self.come_to(moment);
+        // most asks are these: the answer, which is large, is written once, in its place
+        if let Ask::Use { needs, words } = ask {
+            let drawn = self.draw(needs, *words);
+            self.note(Kind::Use, drawn.is_some());
+            return match drawn {
+                Some(first) => Granted::Use { first },
+                None => Granted::Refused,
+            };
+        }
         let granted = self.answer(ask);
-        self.note(ask, &granted);
+        self.note(ask.kind(), granted.is_good());
         granted
     }
 
@@ -159,24 +168,25 @@ impl State {
         expire(&mut self.grants, self.moment);
     }
 
-    fn note(&mut self, ask: &Ask, granted: &Granted)
-        ensures { Notes ask.now granted.now self.old self.new }
+    fn note(&mut self, kind: Kind, good: bool)
+        ensures { Notes kind good self.old self.new }
     {
         self.notes.push_back(Note {
             number: self.number,
             moment: self.moment,
-            kind: ask.kind(),
-            good: granted.is_good(),
+            kind,
+            good,
         });
         self.number = (self.number + 1) % MODULUS;
     }
 
+    // Answers an ask that isn't `Use`.
     fn answer(&mut self, ask: &Ask) -> Granted
-        requires { CanAsk ask.now }
+        requires { is_use_ask ask.now ≡ false }
         ensures { Answers ask.now result self.old self.new }
     {
         match ask {
-            Ask::Use { needs, words } => self.draw(needs, *words),
+            Ask::Use { .. } => unreachable!(),
             Ask::Authorise { activity, minutes } => self.authorise(activity, *minutes),
             Ask::Cancel { activity } => self.cancel(activity),
             Ask::CancelAll => self.cancel_all(),
@@ -185,15 +195,16 @@ impl State {
         }
     }
 
-    fn draw(&mut self, needs: &Needs, words: u16) -> Granted
-        ensures { Answers (Use needs.now words) result self.old self.new }
+    // The place at which the words begin, or none where a need isn't met.
+    fn draw(&mut self, needs: &Needs, words: u16) -> Option<u64>
+        ensures { Answers (Use needs.now words) (drawn_answer result) self.old self.new }
     {
         if !needs.are_met(&self.grants) {
-            return Granted::Refused;
+            return None;
         }
         let first = self.place;
         self.place = (first + u64::from(words)) % MODULUS;
-        Granted::Use { first }
+        Some(first)
     }
 
     fn authorise(&mut self, activity: &Activity, minutes: u16) -> Granted

@@ -1,5 +1,7 @@
 //! A cache of keys that were opened under LMK pairs.
-ghost use Rattle.std.specs.Prelude.{◌≡◌, ◌≤◌, ◌^◌, ◌*◌, ◌++◌, ◌∷◌, [], length, min, ◌+◌, IfOk, IfErr, option_map, option_copied};
+ghost use Rattle.std.specs.Prelude.{◌≡◌, ◌≤◌, ◌^◌, ◌*◌, ◌++◌, ◌∷◌, [], length, min, take, ◌+◌, IfOk, IfErr, option_map, option_copied};
+ghost use Rattle.std.specs.Int.{w64, from_be_bytes};
+ghost use Rattle.std.specs.Str.{bytes_eq};
 ghost use Rattle.hsm_types.specs.Schemes.{scheme_parts};
 ghost use Rattle.hsm_types.specs.Table.{allows_length};
 ghost use Rattle.hsm_lmk.specs.Cache.{Agrees, entry_of, is_of, kept_one, within};
@@ -50,6 +52,7 @@ impl KeyCache {
 
     // The key of the first entry that has this type, scheme and text.
     fn find(&self, ty: KeyType, scheme: Scheme, text: &[u8]) -> Option<Key>
+        requires { 8 ≤ length text.now }
         ensures { result ≡ option_map (λ e. e.key) (entry_of ty scheme text.now (kept_in self.now).entries) }
     {
         match &self.ring {
@@ -97,6 +100,7 @@ fn key_in(
     scheme: Scheme,
     text: &[u8],
 ) -> Option<Key>
+    requires { 8 ≤ length text.now }
     ensures { result ≡ option_map (λ e. e.key) (entry_of ty scheme text.now ring.now.items) }
 {
     let (older, newer) = ring.as_slices();
@@ -106,27 +110,43 @@ fn key_in(
     }
 }
 
+// The first eight bytes.
+fn head(text: &[u8]) -> u64
+    requires { 8 ≤ length text.now }
+    ensures { result ≡ from_be_bytes w64 (take 8 text.now) }
+{
+    let mut bytes = [0; 8];
+    bytes.copy_from_slice(&text[..8]);
+    u64::from_be_bytes(bytes)
+}
+
+// Whether the text that is kept is this one. Most that aren't differ from it in their first eight bytes.
+fn is_text(kept: &[u8], text: &[u8]) -> bool
+    requires { 8 ≤ length text.now }
+    ensures { result ≡ bytes_eq kept.now text.now }
+{
+    kept.len() == text.len() && head(kept) == head(text) && kept == text
+}
+
 // Whether the entry has this type, scheme and text.
 fn is_of(entry: &KeyEntry, ty: KeyType, scheme: Scheme, text: &[u8]) -> bool
+    requires { 8 ≤ length text.now }
     ensures { result ≡ is_of ty scheme text.now entry.now }
 {
-    entry.ty.is(ty) && entry.scheme.is(scheme) && entry.text.as_slice() == text
+    entry.ty.is(ty) && entry.scheme.is(scheme) && is_text(entry.text.as_slice(), text)
 }
 
 // The key of the first of these entries that has this type, scheme and text.
 fn key_among(entries: &[KeyEntry], ty: KeyType, scheme: Scheme, text: &[u8]) -> Option<Key>
+    requires { 8 ≤ length text.now }
     ensures { result ≡ option_map (λ e. e.key) (entry_of ty scheme text.now entries.now) }
 {
-    match entries {
-        [] => None,
-        [entry, more @ ..] => {
-            if is_of(entry, ty, scheme, text) {
-                Some(entry.key)
-            } else {
-                key_among(more, ty, scheme, text)
-            }
+    for entry in entries {
+        if is_of(entry, ty, scheme, text) {
+            return Some(entry.key);
         }
     }
+    None
 }
 
 /// What `open` answers. A key that is kept by its type, scheme and text is not opened anew; another one is kept, and

@@ -1,7 +1,7 @@
 //! Sealing and opening of keys under LMK pairs and wrapping keys.
 #![tactic(auto)]
 
-ghost use Rattle.std.specs.Prelude.{◌≡◌, ◌+◌, ◌*◌, ◌<◌, ◌≤◌, ◌↔◌, ℕ, List, [], ◌∷◌, length, true, false, not, map, IsTrue, IfOk, slice_index, Some, codes};
+ghost use Rattle.std.specs.Prelude.{◌≡◌, ◌+◌, ◌-◌, ◌*◌, ◌<◌, ◌≤◌, ◌↔◌, ℕ, List, [], ◌∷◌, length, true, false, not, map, IsTrue, IfOk, slice_index, Some, codes};
 ghost use Rattle.hsm_types.specs.Table.{variant_of, allows_length};
 ghost use Rattle.hsm_types.specs.Schemes.{scheme_parts};
 ghost use Rattle.hsm_tdes.specs.Tdes.{enciphered, deciphered};
@@ -17,7 +17,7 @@ pub mod laws;
 use arrayvec::ArrayVec;
 pub use cache::open_cached;
 use hsm_parity::is_odd;
-use hsm_tdes::{Key, decipher, encipher};
+use hsm_tdes::{Key, Prepared, decipher, encipher};
 use hsm_types::{KeyType, Scheme, length_allowed, pair, scheme_parts, variant};
 pub use kept::{KeyCache, KeyEntry};
 use std::fmt;
@@ -204,6 +204,19 @@ fn under(wrapping: &Key, scheme: Scheme, i: usize) -> Key
     }
 }
 
+// Makes the wrapping key for the part before into that for part i. Its schedules that stay the same are kept.
+fn vary_next(prepared: &mut Prepared, wrapping: &Key, scheme: Scheme, i: usize)
+    requires parts { 2 ≤ length wrapping.now }
+    requires part { i < scheme_parts scheme }
+    requires before { prepared.old ≡ under wrapping.now scheme (i - 1) }
+    ensures { prepared.new ≡ under wrapping.now scheme i }
+{
+    let by = scheme_variant(scheme, i);
+    if by != scheme_variant(scheme, i.saturating_sub(1)) {
+        prepared.set_second(&vary(wrapping.part(1), by));
+    }
+}
+
 // Writes the text of the key under a wrapping key.
 fn seal_parts(wrapping: &Key, scheme: Scheme, key: &Key, out: &mut [u8])
     requires wrapping { 2 ≤ length wrapping.now }
@@ -212,8 +225,10 @@ fn seal_parts(wrapping: &Key, scheme: Scheme, key: &Key, out: &mut [u8])
     ensures sealed { Sealed wrapping.now scheme key.now out.new }
     ensures value { out.new ≡ sealed wrapping.now scheme key.now }
 {
+    let mut prepared = Prepared::of(&under(wrapping, scheme, 0));
     for i in 0..key.parts() {
-        let block = encipher(&under(wrapping, scheme, i), u64::from_be_bytes(key.part(i)));
+        vary_next(&mut prepared, wrapping, scheme, i);
+        let block = prepared.encipher(u64::from_be_bytes(key.part(i)));
         out[8 * i..8 * i + 8].copy_from_slice(&block.to_be_bytes());
     }
 }
@@ -274,8 +289,10 @@ fn open_parts(wrapping: &Key, scheme: Scheme, text: &[u8]) -> Key
 {
     let parts = scheme_parts(scheme);
     let mut bytes = [0; 24];
+    let mut prepared = Prepared::of(&under(wrapping, scheme, 0));
     for i in 0..parts {
-        let block = decipher(&under(wrapping, scheme, i), block_at(text, i));
+        vary_next(&mut prepared, wrapping, scheme, i);
+        let block = prepared.decipher(block_at(text, i));
         bytes[8 * i..8 * i + 8].copy_from_slice(&block.to_be_bytes());
     }
     match Key::of(&bytes[..8 * parts]) {

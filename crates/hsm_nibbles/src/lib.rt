@@ -49,11 +49,8 @@ pub fn hex_character(digit: u8) -> u8
     requires { digit < 16 }
     ensures { result ≡ hex_character digit }
 {
-    if digit < 10 {
-        b'0' + digit
-    } else {
-        b'A' + (digit - 10)
-    }
+    // the last term is the 7 characters between '9' and 'A', from the digit 10 on
+    b'0' + digit + 7 * ((digit + 6) >> 4)
 }
 
 /// The digit of a hexadecimal character of either case.
@@ -62,13 +59,8 @@ pub fn digit_value(character: u8) -> u8
     ensures value { result ≡ digit_value character }
     ensures bound { result < 16 }
 {
-    if character <= b'9' {
-        character - b'0'
-    } else if character <= b'F' {
-        character - b'A' + 10
-    } else {
-        character - b'a' + 10
-    }
+    // bit 6 tells letters, whose last four bits count from 1, from digits, whose last four bits are their values
+    (character & 15) + 9 * (character >> 6)
 }
 
 /// The sixteen upper-case hexadecimal characters that write a block.

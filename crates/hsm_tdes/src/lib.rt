@@ -7,6 +7,7 @@ ghost use Rattle.hsm_tdes.specs.Tdes.{IsKey, IsPart, enciphered, deciphered, che
 pub mod laws;
 mod prepared;
 
+use hsm_des::{Schedule, decrypt, decrypt_encrypt_decrypt, encrypt, encrypt_decrypt_encrypt};
 use hsm_nibbles::block_characters;
 pub use prepared::Prepared;
 use std::fmt;
@@ -150,14 +151,38 @@ impl Key {
 pub fn encipher(key: &Key, block: u64) -> u64
     ensures { result ≡ enciphered key.now block }
 {
-    Prepared::of(key).encipher(block)
+    match &key.parts {
+        Parts::One(a) => encrypt(&Schedule::new(*a), block),
+        Parts::Two(a, b) => {
+            let first = Schedule::new(*a);
+            encrypt_decrypt_encrypt(&first, &Schedule::new(*b), &first, block)
+        }
+        Parts::Three(a, b, c) => encrypt_decrypt_encrypt(
+            &Schedule::new(*a),
+            &Schedule::new(*b),
+            &Schedule::new(*c),
+            block,
+        ),
+    }
 }
 
 /// The block that `encipher` makes into this one.
 pub fn decipher(key: &Key, block: u64) -> u64
     ensures { result ≡ deciphered key.now block }
 {
-    Prepared::of(key).decipher(block)
+    match &key.parts {
+        Parts::One(a) => decrypt(&Schedule::new(*a), block),
+        Parts::Two(a, b) => {
+            let first = Schedule::new(*a);
+            decrypt_encrypt_decrypt(&first, &Schedule::new(*b), &first, block)
+        }
+        Parts::Three(a, b, c) => decrypt_encrypt_decrypt(
+            &Schedule::new(*c),
+            &Schedule::new(*b),
+            &Schedule::new(*a),
+            block,
+        ),
+    }
 }
 
 /// The check value: the first six upper-case hexadecimal digits of the enciphered zero block.

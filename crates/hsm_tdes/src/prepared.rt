@@ -1,8 +1,8 @@
 //! Keys whose schedules are made once.
-ghost use Rattle.std.specs.Prelude.{◌≡◌, take, drop, length};
+ghost use Rattle.std.specs.Prelude.{◌≡◌, ◌≤◌, take, drop, length, set};
 ghost use Rattle.hsm_tdes.specs.Tdes.{enciphered, deciphered};
 
-use crate::{Key, Parts};
+use crate::{Key, Parts, whole};
 use hsm_des::{Schedule, decrypt, decrypt_encrypt_decrypt, encrypt, encrypt_decrypt_encrypt};
 use std::marker::Model;
 
@@ -41,16 +41,41 @@ impl Prepared {
     pub fn of(key: &Key) -> Prepared
         ensures { result ≡ key.now }
     {
-        let schedules = match key.parts {
-            Parts::One(a) => Schedules::One(Schedule::new(a)),
-            Parts::Two(a, b) => Schedules::Two(Schedule::new(a), Schedule::new(b)),
-            Parts::Three(a, b, c) => {
-                Schedules::Three(Schedule::new(a), Schedule::new(b), Schedule::new(c))
+        match &key.parts {
+            Parts::One(a) => Prepared {
+                key: *key,
+                schedules: Schedules::One(Schedule::new(*a)),
+            },
+            Parts::Two(a, b) => Prepared {
+                key: *key,
+                schedules: Schedules::Two(Schedule::new(*a), Schedule::new(*b)),
+            },
+            Parts::Three(a, b, c) => Prepared {
+                key: *key,
+                schedules: Schedules::Three(
+                    Schedule::new(*a),
+                    Schedule::new(*b),
+                    Schedule::new(*c),
+                ),
+            },
+        }
+    }
+
+    /// Exchanges the second part, and makes the schedule of that part alone.
+    pub fn set_second(&mut self, part: &[u8; 8])
+        requires { 2 ≤ length self.old }
+        ensures { self.new ≡ set self.old 1 part.now }
+    {
+        match (&mut self.key.parts, &mut self.schedules) {
+            (Parts::Two(_, second), Schedules::Two(_, schedule)) => {
+                *second = whole(part);
+                *schedule = Schedule::new(*part);
             }
-        };
-        Prepared {
-            key: *key,
-            schedules,
+            (Parts::Three(_, second, _), Schedules::Three(_, schedule, _)) => {
+                *second = whole(part);
+                *schedule = Schedule::new(*part);
+            }
+            _ => unreachable!(),
         }
     }
 

@@ -8,18 +8,26 @@ ghost use Rattle.hsm_text.specs.Sizes.{take_size, digits_size, hex_size, word_si
 
 use crate::keys::KeyForm;
 
-/// Whether these are decimal digits.
+/// Whether these are decimal digits. It reads all bytes, without a branch for each.
 pub fn all_digits(text: &[u8]) -> bool
     ensures { result ≡ list_all is_ascii_digit text.now }
 {
-    text.iter().all(|b| b.is_ascii_digit())
+    let mut all = true;
+    for byte in text {
+        all &= byte.is_ascii_digit();
+    }
+    all
 }
 
-/// Whether these are hexadecimal digits, of either case.
+/// Whether these are hexadecimal digits, of either case. It reads all bytes, without a branch for each.
 pub fn all_hex(text: &[u8]) -> bool
     ensures { result ≡ list_all is_ascii_hexdigit text.now }
 {
-    text.iter().all(|b| b.is_ascii_hexdigit())
+    let mut all = true;
+    for byte in text {
+        all &= byte.is_ascii_hexdigit();
+    }
+    all
 }
 
 /// Any n bytes.

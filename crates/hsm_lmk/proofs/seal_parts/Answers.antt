@@ -18,15 +18,17 @@ loop-i-preserved c =
     let i = c.loop-i.i in
     let out = c.loop-i.out in
     let new = c.copy_from_slice.new.self in
+    let last : i ≡ i + 1 - 1 = omega arith in
     let n = enciphered (under w s i) (block_of c.part.result) in
     let rest = sealed_from w s (i + 1) (drop (i + 1) c.args.key.now) in
-    let block : c.encipher-block.result ≡ n = c.encipher-block.ensures ∙ ap₂ enciphered c.under.ensures.key c.from_be_bytes.ensures in
+    let block : c.encipher-block.result ≡ n = c.encipher-block.ensures ∙ ap₂ enciphered c.vary_next.ensures c.from_be_bytes.ensures in
     let bytes : new ≡ to_be_bytes w64 n = c.copy_from_slice.ensures.after ∙ c.to_be_bytes.ensures ∙ ap (to_be_bytes w64) block in
     let eight : length new ≡ 8 = ap length bytes in
     let room : 8 * i + 8 ≤ length out = omega (arith, c.loop-i.invariant.size, c.requires.parts, c.parts-i-end.ensures.count) in
     let next : 8 * (i + 1) ≡ 8 * i + length new = omega arith in
     let front = take-put_mid (8 * i) (8 * i + 8 - 8 * i) out new (8 * (i + 1)) next (omega arith) in
     record {
+      prepared = c.vary_next.ensures ∙ ap (under w s) last;
       size = length-written out new i n room bytes ∙ c.loop-i.invariant.size;
       same =
           c.loop-i.invariant.same

@@ -1,5 +1,0 @@
-use Rattle.std.proofs.Common.{length}
-use Rattle.hsm_lmk.proofs.cache.+key_among.Given as goal
-
-abbrev pub decreases-key_among : goal.decreases-key_among
-decreases-key_among l = length l.entries.now
