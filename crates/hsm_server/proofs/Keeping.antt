@@ -1,5 +1,5 @@
 -- What a cache keeps of the connections of a lane, one after another, and the hits that their reports count.
-use Rattle.std.proofs.Common.{◌≡◌, ◌⊎◌, ℕ, zero, suc, ◌+◌, List, [], ◌∷◌, ◌++◌, flat_map, slice_get, take, Some, refl, sym, ap, subst, ◌∙◌, inl, inr, append-nil, arith}
+use Rattle.std.proofs.Common.{◌≡◌, ◌⊎◌, ℕ, zero, suc, ◌+◌, List, [], ◌∷◌, ◌++◌, flat_map, slice_get, take, Some, refl, sym, ap, ◌∙◌, inl, inr, append-nil, arith}
 use Rattle.std.proofs.lemmas.Grind.{flat_map-append}
 use Rattle.hsm_answers.specs.Kept.{opened_of}
 use Rattle.hsm_auth.specs.declared.activity.Place.{Place}
