@@ -12,7 +12,7 @@ use Rattle.hsm_answers.specs.declared.plans.Checked.{Checked}
 use Rattle.hsm_answers.specs.declared.plans.Checked.TheVariants.{Unread, Failed, Passed}
 use Rattle.hsm_answers.specs.Keys.{first_code}
 use Rattle.hsm_answers.specs.Checks.{check_before, check_read, entry_fault}
-use Rattle.hsm_answers.specs.Asks.{ask_of, ask_read, row_ask, empty_ask}
+use Rattle.hsm_answers.specs.Asks.{ask_of, ask_read, row_ask}
 use Rattle.hsm_answers.specs.Answers.{answer, host_answer, host_body, console_answer}
 use Rattle.hsm_answers.specs.Plans.{IsChecked, AreFields, HasPassed, host_text, fault_at, fields_after, fields_text, code_text, code_number}
 
@@ -51,18 +51,7 @@ answered m row text g checked fields trailer host h f =
     ap (λ (console : Bool). if console then console_answer m row g (reading row text) else host_answer m row g (reading row text)) host
     ∙ host_answered m row (reading row text) g checked fields trailer h f
 
--- the ask of a message that doesn't read
-pub unread_ask : (m : Module) (row : RowShape) (text : List ℕ) (code : Code) → reading row text ≡ Err code → ask_of m row text ≡ empty_ask
-unfolding ask_of ask_read
-unread_ask m row text code h = ap (λ (x : Result ReadText Code). ask_read m (rules_of row) x) h
-
--- the ask of a message of which a check before the entry fails
-pub failed_ask : (m : Module) (row : RowShape) (text : List ℕ) (r : ReadText) (code : ℕ)
-    → reading row text ≡ Ok r → check_before m (rules_of row) r ≡ Some code → ask_of m row text ≡ empty_ask
-unfolding ask_of ask_read
-failed_ask m row text r code h k = ap (λ (x : Result ReadText Code). ask_read m (rules_of row) x) h ∙ (rw k refl)
-
--- the ask of any other message
+-- the ask of a message of which no check before the entry fails
 pub passed_ask : (m : Module) (row : RowShape) (text : List ℕ) (r : ReadText)
     → reading row text ≡ Ok r → check_before m (rules_of row) r ≡ None → ask_of m row text ≡ row_ask m (rules_of row) r (rules_of row).ask
 unfolding ask_of ask_read

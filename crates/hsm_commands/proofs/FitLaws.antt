@@ -13,23 +13,26 @@ use Rattle.hsm_rows.specs.declared.rules.DataCheck.{DataCheck}
 use Rattle.hsm_rows.specs.declared.rules.DataCheck.TheVariants.{TableCheck, PinCheck, LongerThan, ShorterThan, MacCheck}
 use Rattle.hsm_rows.specs.Rules.{RowRules}
 use Rattle.hsm_rows.specs.Table.{RowShape, Term, rules_of}
-use Rattle.hsm_rows.specs.Reading.{ReadText, is_console}
-use Rattle.hsm_rows.specs.Standing.{AreTexts, AreDigits, AreHexDigits, IsLength, IsValidation, IsAccount}
+use Rattle.hsm_rows.specs.Reading.{ReadText, is_end}
+use Rattle.hsm_rows.specs.Standing.{AreDigits, AreHexDigits, IsLength, IsValidation, IsAccount}
 use Rattle.hsm_answers.specs.Keys.{field_text, is_absent, scheme_at, lmk_key, first_code}
 use Rattle.hsm_answers.specs.Pins.{given_pin, number_at}
 use Rattle.hsm_answers.specs.Values.{made_parts}
 use Rattle.hsm_rows.specs.declared.rules.MacFields.{MacFields}
+use Rattle.hsm_rows.specs.declared.rules.AskKind.{AskKind}
+use Rattle.hsm_rows.specs.declared.rules.AskKind.TheVariants.{UseAsk, LookAsk, RecentAsk, CancelAllAsk, AuthoriseAsk, CancelAsk}
 use Rattle.hsm_answers.specs.Macs.{mac_fault}
 use Rattle.hsm_answers.specs.Checks.{data_fault, checks_fault}
 use Rattle.hsm_commands.specs.declared.keys.OpenedKeys.{OpenedKeys}
 use Rattle.hsm_commands.specs.Opened.{KeysHold}
-use Rattle.hsm_commands.specs.Demands.{Demand, so, has_digits, has_hex16, has_length, has_clear_pin, has_validation, has_pan, has_account, account_field, IsTwelveDigits, has_mac_texts, has_key, has_pair, has_key_under, fits_algorithm, has_sound_data, has_least, fits_scheme, can_wrap, secret_parts, CanWrap, Met, AllMet, EachMet, parts_demands, pin_demands, check_demands, value_demands, word_demands, term_demands}
-use Rattle.hsm_commands.specs.Plans.{RowStands, IsFollowed}
-use Rattle.hsm_commands.specs.Fit.{form_at, is_digits, is_hex16, is_length, is_clear_pin, is_pair, is_validation, is_account, has_twelve, meets, meets_all, meets_each, wraps_in, is_shorter, has_shorter, is_mac, has_mac, sealed_fits, wrapped_fits, all_fit, all_true, rules_fit}
-use Rattle.hsm_commands.proofs.FormLaws.{text_is, digits_mean, hex16_means, length_means, clear_means, pair_means, validation_means, account_means, IsTwelve, HasTwoParts}
+use Rattle.hsm_commands.specs.Demands.{Demand, so, has_digits, has_hex16, has_length, has_clear_pin, has_validation, has_pan, has_account, account_field, have_pin, IsTwelveDigits, has_mac_texts, has_key, has_pair, has_key_under, fits_algorithm, has_sound_data, has_least, fits_scheme, can_wrap, has_components, secret_parts, CanWrap, Met, AllMet, EachMet, parts_demands, pin_demands, check_demands, value_demands, word_demands, term_demands}
+use Rattle.hsm_commands.specs.Plans.{AreRead, AskStands, RowStands, IsFollowed}
+use Rattle.hsm_commands.specs.Fit.{form_at, is_digits, is_hex16, is_length, is_clear_pin, is_pair, is_validation, is_account, has_twelve, is_minutes_form, keys_fit, ask_fits, meets, meets_all, meets_each, wraps_in, is_shorter, has_shorter, is_mac, has_mac, sealed_fits, wrapped_fits, all_fit, all_true, rules_fit}
+use Rattle.hsm_commands.proofs.FormLaws.{text_is, digits_mean, hex16_means, length_means, clear_means, pair_means, validation_means, account_means, minutes_mean, AreMinutes, IsTwelve, HasTwoParts}
 use Rattle.hsm_commands.proofs.MacFit.{mac_stands, mac_same, takes_by}
+use Rattle.hsm_commands.proofs.ComponentLaws.{components_there}
 use Rattle.hsm_commands.proofs.RoomLaws.{room_is}
-use Rattle.hsm_commands.proofs.HeldKeys.{key_held, key_taken, key_under, key_sized, under_sized, wrapping_held, targets_same, keys_stand, or_cases, not_true, same_number}
+use Rattle.hsm_commands.proofs.HeldKeys.{key_held, key_taken, key_under, key_sized, under_sized, wrapping_held, targets_same, keys_stand, or_cases, same_number}
 
 at_most : (a b : ℕ) → nat_le a b ≡ true → a ≤ b
 at_most a b h = grind (arith, nat_tests)
@@ -52,7 +55,7 @@ first_of_codes : (x : Option ℕ) (xs : List (Option ℕ)) → first_code (x ∷
 first_of_codes None xs h = (refl, h)
 first_of_codes (Some code) xs h = let z : ⊥ = cc in absurd z
 
-module _ (m : Module) (rules : RowRules) (fs : List Field) (r : ReadText) (texts : AreTexts fs r.texts) where
+module _ (m : Module) (rules : RowRules) (fs : List Field) (r : ReadText) (texts : AreRead fs r.texts) where
   digits_there : (n k : ℕ) → form_at (is_digits n) fs k ≡ true → AreDigits n (field_text r k)
   digits_there n k h = text_is (is_digits n) (AreDigits n) (digits_mean n) fs r.texts k texts h
 
@@ -113,7 +116,7 @@ module _ (m : Module) (rules : RowRules) (fs : List Field) (r : ReadText) (texts
   sealed_parts keys hold (secret.Opened k) h = key_sized m rules r rules.keys keys k rules.made.scheme hold h
   sealed_parts keys hold (secret.OpenedUnder k kek) h = under_sized m rules r rules.keys keys k kek rules.made.scheme hold h
   sealed_parts keys hold secret.DrawnKey h = refl
-  sealed_parts keys hold secret.Joined h = let z : ⊥ = cc in absurd z
+  sealed_parts keys hold secret.Joined h = refl
 
   wrapped_parts : (keys : OpenedKeys) → KeysHold m rules r rules.keys keys → (s : Secret) → wrapped_fits rules s ≡ true → is_absent r rules.made.wrap_scheme ≡ false
       → secret_parts m rules r s ≡ scheme_parts (scheme_at r rules.made.wrap_scheme)
@@ -154,6 +157,7 @@ module _ (m : Module) (rules : RowRules) (fs : List Field) (r : ReadText) (texts
   met keys hold (can_wrap s kek) h = λ there.
       let p = and_parts _ _ h in
       wraps_there keys hold s kek p.0 p.1 there
+  met keys hold (has_components ks) h = components_there fs r texts rules.made.scheme ks h
 
   all_met : (keys : OpenedKeys) → KeysHold m rules r rules.keys keys → (ds : List Demand) → meets_all fs rules ds ≡ true → AllMet m rules r keys ds
   all_met keys hold [] h = tt
@@ -163,42 +167,83 @@ module _ (m : Module) (rules : RowRules) (fs : List Field) (r : ReadText) (texts
   each_met keys hold [] h = tt
   each_met keys hold (d ∷ ds) h = let p = and_parts _ _ h in (all_met keys hold d p.0, each_met keys hold ds p.1)
 
-  row_stands : (ts : List Term) → all_true (all_fit fs rules ts) ≡ true → RowStands m rules ts r
-  row_stands ts h =
-      let few = and_parts _ _ (and_parts _ _ h).1 in
-      let k = and_parts _ _ few.1 in
-      let have = and_parts _ _ k.1 in
-      let ask = and_parts _ _ have.1 in
-      let parts = and_parts _ _ ask.1 in
-      let pin = and_parts _ _ parts.1 in
-      let checks = and_parts _ _ pin.1 in
-      let value = and_parts _ _ checks.1 in
-      let words = and_parts _ _ value.1 in
-      let terms = and_parts _ _ words.1 in
-      record {
-        keys = keys_stand m rules r rules.keys refl k.0;
-        have = have.0;
-        ask = ask.0;
-        steps = λ keys hold. record {
-          parts = all_met keys hold (parts_demands rules.parts_differ) parts.0;
-          pin = all_met keys hold (pin_demands rules.pin) pin.0;
-          checks = each_met keys hold (map (check_demands rules.pin) rules.checks) checks.0;
-          value = all_met keys hold (value_demands rules rules.value) value.0;
-          words = all_met keys hold (word_demands rules rules.words) words.0;
-          fields = each_met keys hold (map (term_demands rules) ts) terms.0;
-        };
-      }
+  ask_stands : (ask : AskKind) → ask_fits fs ask ≡ true → AskStands r ask
+  ask_stands AuthoriseAsk h = text_is is_minutes_form AreMinutes minutes_mean fs r.texts 1 texts h
+  ask_stands CancelAsk h = tt
+  ask_stands UseAsk h = tt
+  ask_stands LookAsk h = tt
+  ask_stands RecentAsk h = tt
+  ask_stands CancelAllAsk h = tt
+
+-- the tests of a row, one by one
+record Fits (fs : List Field) (rules : RowRules) (ts : List Term) : Type 0 where
+  fields : nat_le (length fs) 12 ≡ true
+  few : nat_le (length ts) 9 ≡ true
+  keys : keys_fit rules.keys ≡ true
+  have : have_pin false rules.checks ≡ true
+  ask : ask_fits fs rules.ask ≡ true
+  parts : meets_all fs rules (parts_demands rules rules.parts_differ) ≡ true
+  pin : meets_all fs rules (pin_demands rules.pin) ≡ true
+  checks : meets_each fs rules (map (check_demands rules.pin) rules.checks) ≡ true
+  value : meets_all fs rules (value_demands rules rules.value) ≡ true
+  words : meets_all fs rules (word_demands rules rules.words) ≡ true
+  terms : meets_each fs rules (map (term_demands rules) ts) ≡ true
+
+each_test : (fs : List Field) (rules : RowRules) (ts : List Term) → all_true (all_fit fs rules ts) ≡ true → Fits fs rules ts
+each_test fs rules ts h =
+    let fields = and_parts _ _ h in
+    let few = and_parts _ _ fields.1 in
+    let keys = and_parts _ _ few.1 in
+    let have = and_parts _ _ keys.1 in
+    let ask = and_parts _ _ have.1 in
+    let parts = and_parts _ _ ask.1 in
+    let pin = and_parts _ _ parts.1 in
+    let checks = and_parts _ _ pin.1 in
+    let value = and_parts _ _ checks.1 in
+    let words = and_parts _ _ value.1 in
+    let terms = and_parts _ _ words.1 in
+    record {
+      fields = fields.0;
+      few = few.0;
+      keys = keys.0;
+      have = have.0;
+      ask = ask.0;
+      parts = parts.0;
+      pin = pin.0;
+      checks = checks.0;
+      value = value.0;
+      words = words.0;
+      terms = terms.0;
+    }
+
+row_stands : (m : Module) (rules : RowRules) (fs : List Field) (ts : List Term) → Fits fs rules ts → (r : ReadText) → AreRead fs r.texts → RowStands m rules r
+row_stands m rules fs ts fit r texts = record {
+  keys = keys_stand m rules r rules.keys refl fit.keys;
+  have = fit.have;
+  ask = ask_stands m rules fs r texts rules.ask fit.ask;
+  steps = λ keys hold. record {
+    parts = all_met m rules fs r texts keys hold (parts_demands rules rules.parts_differ) fit.parts;
+    pin = all_met m rules fs r texts keys hold (pin_demands rules.pin) fit.pin;
+    checks = each_met m rules fs r texts keys hold (map (check_demands rules.pin) rules.checks) fit.checks;
+    value = all_met m rules fs r texts keys hold (value_demands rules rules.value) fit.value;
+    words = all_met m rules fs r texts keys hold (word_demands rules rules.words) fit.words;
+  };
+}
+
+short_reply : (reply : List ℕ) → (is_end reply || length reply == 2) ≡ true → length reply ≤ 2
+short_reply [] h = omega arith
+short_reply (c ∷ cs) h = omega (arith, equal_to (length (c ∷ cs)) 2 h)
 
 pub fits_followed : (row : RowShape) → rules_fit row ≡ true → IsFollowed row
 unfolding rules_fit
 fits_followed row h =
     let p = and_parts _ _ h in
     let k = and_parts _ _ p.0 in
-    let q = and_parts _ _ k.0 in
+    let fit = each_test row.fields (rules_of row) row.terms p.1 in
     record {
-      few = at_most (length row.fields) 12 (and_parts _ _ p.1).0;
-      host = not_true (is_console row) q.0;
-      reply = equal_to (length row.reply) 2 q.1;
-      room = λ text r texts reads. room_is row text r (at_most (length row.terms) 9 (and_parts _ _ (and_parts _ _ p.1).1).0) texts reads k.1;
-      stands = λ m r texts. row_stands m (rules_of row) row.fields r texts row.terms p.1;
+      few = at_most (length row.fields) 12 fit.fields;
+      reply = short_reply row.reply k.0;
+      room = λ text r texts reads. room_is row text r (at_most (length row.terms) 9 fit.few) texts reads k.1;
+      stands = λ m r texts. row_stands m (rules_of row) row.fields row.terms fit r texts;
+      terms = λ m r texts keys hold. each_met m (rules_of row) row.fields r texts keys hold (map (term_demands (rules_of row)) row.terms) fit.terms;
     }

@@ -1,6 +1,6 @@
 -- What the text of a field is, by the test that its form passes.
 use Rattle.std.proofs.Common.{◌≡◌, ℕ, zero, suc, ◌+◌, ◌<◌, ◌≤◌, Bool, true, false, List, [], ◌∷◌, length, ◌++◌, refl, sym, ap, ◌∙◌, subst, arith, length-append, inl, inr}
-use Rattle.std.specs.Prelude.{◌==◌, nat_lt}
+use Rattle.std.specs.Prelude.{◌==◌, nat_lt, codes}
 use Rattle.std.proofs.Math.ListN.{get_or-append}
 use Rattle.std.proofs.Math.Seq.{get_or-append_seam}
 use Rattle.std.proofs.lemmas.Bool.Decides.{nat_tests}
@@ -9,16 +9,48 @@ use Rattle.hsm_text.specs.KeyTexts.{scheme_of}
 use Rattle.hsm_rows.specs.declared.row.Form.{Form}
 use Rattle.hsm_rows.specs.declared.row.Form.TheVariants as form
 use Rattle.hsm_rows.specs.declared.row.Field.{Field}
-use Rattle.hsm_rows.specs.Forms.{text_at}
-use Rattle.hsm_rows.specs.Standing.{IsText, EachText, AreTexts, AreDigits, AreHexDigits, IsLength, IsValidation, IsFormat, IsAccount, IsCount}
-use Rattle.hsm_commands.specs.Fit.{form_at, is_digits, is_hex16, is_length, is_clear_pin, is_pair, is_validation, is_brief, is_account, is_count}
+use Rattle.hsm_rows.specs.Forms.{text_at, is_minutes}
+use Rattle.hsm_rows.specs.Table.{RowShape}
+use Rattle.hsm_rows.specs.Reading.{ReadText, is_console}
+use Rattle.hsm_rows.specs.Standing.{IsText, EachText, AreTexts, IsTextOrAbsent, AreTextsOrAbsent, IsOneOf, AreDigits, AreHexDigits, IsLength, IsValidation, IsFormat, IsAccount, IsCount}
+use Rattle.hsm_commands.specs.Plans.{IsRead, AreRead}
+use Rattle.hsm_commands.specs.Fit.{form_at, is_digits, is_hex16, is_length, is_clear_pin, is_pair, is_validation, is_brief, is_account, is_count, is_scheme_form, is_minutes_form}
+
+-- ---- what is read of a row
+
+each_read : (P : Form → List (List ℕ) → List ℕ → Type 0) → ((f : Form) (e : List (List ℕ)) (t : List ℕ) → P f e t → IsRead f e t)
+    → (fs : List Field) (e : List (List ℕ)) (k : ℕ) (texts : List (List ℕ)) → EachText P fs e k texts → EachText IsRead fs e k texts
+each_read P same [] e k texts all = tt
+each_read P same (f ∷ fs) e k texts all = (same f.form e (text_at texts k) all.0, each_read P same fs (e ++ text_at texts k ∷ []) (k + 1) texts all.1)
+
+text_read : (f : Form) (e : List (List ℕ)) (t : List ℕ) → IsText f e t → IsRead f e t
+text_read (form.LastComponent scheme) e t h = inr h
+text_read _ e t h = h
+
+absent_read : (f : Form) (e : List (List ℕ)) (t : List ℕ) → IsTextOrAbsent f e t → IsRead f e t
+absent_read (form.LastComponent scheme) e t (inl h) = inr h
+absent_read (form.LastComponent scheme) e t (inr h) = inl h.0
+absent_read _ e t (inl h) = h
+absent_read _ e t (inr h) = let n : false ≡ true = h.1.1 in let z : ⊥ = cc in absurd z
+
+-- the texts of a host row, and those of a console row
+texts_read : (row : RowShape) (r : ReadText) (console : Bool) → is_console row ≡ console → (is_console row ≡ false → AreTexts row.fields r.texts)
+    → (is_console row ≡ true → AreTextsOrAbsent row.fields r.texts) → AreRead row.fields r.texts
+texts_read row r false e host officer = each_read IsText text_read row.fields [] 0 r.texts (host e)
+texts_read row r true e host officer = each_read IsTextOrAbsent absent_read row.fields [] 0 r.texts (officer e)
+
+pub are_read : (row : RowShape) (r : ReadText) → (is_console row ≡ false → AreTexts row.fields r.texts) → (is_console row ≡ true → AreTextsOrAbsent row.fields r.texts)
+    → AreRead row.fields r.texts
+are_read row r host officer = texts_read row r (is_console row) refl host officer
+
+-- ---- forms
 
 -- what a form that passes the test says of its text
 abbrev pub Means : (Form → Bool) → (List ℕ → Type 0) → Type 0
-Means test Q = (f : Form) (e : List (List ℕ)) (t : List ℕ) → test f ≡ true → IsText f e t → Q t
+Means test Q = (f : Form) (e : List (List ℕ)) (t : List ℕ) → test f ≡ true → IsRead f e t → Q t
 
 each_at : (test : Form → Bool) (Q : List ℕ → Type 0) → Means test Q → (fs : List Field) (earlier : List (List ℕ)) (n : ℕ) (texts : List (List ℕ)) (k : ℕ)
-    → EachText IsText fs earlier n texts → form_at test fs k ≡ true → Q (text_at texts (n + k))
+    → EachText IsRead fs earlier n texts → form_at test fs k ≡ true → Q (text_at texts (n + k))
 each_at test Q means [] earlier n texts k all h = let z : ⊥ = cc in absurd z
 each_at test Q means (f ∷ fs) earlier n texts zero all h =
     let e : n ≡ n + 0 = omega arith in
@@ -31,7 +63,7 @@ each_at test Q means (f ∷ fs) earlier n texts (suc k) all h =
 
 -- the text of field k
 pub text_is : (test : Form → Bool) (Q : List ℕ → Type 0) → Means test Q → (fs : List Field) (texts : List (List ℕ)) (k : ℕ)
-    → AreTexts fs texts → form_at test fs k ≡ true → Q (text_at texts k)
+    → AreRead fs texts → form_at test fs k ≡ true → Q (text_at texts k)
 text_is test Q means fs texts k all h =
     let e : 0 + k ≡ k = omega arith in
     let P : ℕ → Type 0 = λ i. Q (text_at texts i) in
@@ -111,6 +143,21 @@ pub count_is : Means is_count IsCount
 count_is form.Count e t h x = x
 count_is _ e t h x = let z : ⊥ = cc in absurd z
 
+-- the letter of a scheme
+abbrev pub IsLetter : List ℕ → Type 0
+IsLetter t = IsOneOf (codes "Z" ∷ codes "U" ∷ codes "T" ∷ []) t
+
+pub scheme_means : Means is_scheme_form IsLetter
+scheme_means form.Scheme e t h x = x
+scheme_means _ e t h x = let z : ⊥ = cc in absurd z
+
+abbrev pub AreMinutes : List ℕ → Type 0
+AreMinutes t = is_minutes t ≡ true
+
+pub minutes_mean : Means is_minutes_form AreMinutes
+minutes_mean form.Minutes e t h x = x
+minutes_mean _ e t h x = let z : ⊥ = cc in absurd z
+
 -- the texts before field n
 pub record Earlier (texts : List (List ℕ)) (n : ℕ) (earlier : List (List ℕ)) : Type 0 where
   pub count : length earlier ≡ n
@@ -122,7 +169,7 @@ pub record Stood (test : Form → Bool) (texts : List (List ℕ)) (k : ℕ) : Ty
   pub earlier : List (List ℕ)
   pub before : Earlier texts k earlier
   pub passes : test form_of ≡ true
-  pub stands : IsText form_of earlier (text_at texts k)
+  pub stands : IsRead form_of earlier (text_at texts k)
 
 one_more_by : (texts : List (List ℕ)) (n : ℕ) (earlier : List (List ℕ)) → Earlier texts n earlier → (j : ℕ) → j < n + 1 → (b : Bool) → nat_lt j n ≡ b
     → text_at (earlier ++ text_at texts n ∷ []) j ≡ text_at texts j
@@ -141,7 +188,7 @@ one_more_text texts n earlier e = record {
 }
 
 stood_at : (test : Form → Bool) (fs : List Field) (earlier : List (List ℕ)) (n : ℕ) (texts : List (List ℕ)) (k : ℕ)
-    → Earlier texts n earlier → EachText IsText fs earlier n texts → form_at test fs k ≡ true → Stood test texts (n + k)
+    → Earlier texts n earlier → EachText IsRead fs earlier n texts → form_at test fs k ≡ true → Stood test texts (n + k)
 stood_at test [] earlier n texts k e all h = let z : ⊥ = cc in absurd z
 stood_at test (f ∷ fs) earlier n texts zero e all h =
     let at : n ≡ n + 0 = omega arith in
@@ -152,7 +199,7 @@ stood_at test (f ∷ fs) earlier n texts (suc k) e all h =
     let P : ℕ → Type 0 = λ i. Stood test texts i in
     subst P at (stood_at test fs (earlier ++ text_at texts n ∷ []) (n + 1) texts k (one_more_text texts n earlier e) all.1 h)
 
-pub stood : (test : Form → Bool) (fs : List Field) (texts : List (List ℕ)) (k : ℕ) → AreTexts fs texts → form_at test fs k ≡ true → Stood test texts k
+pub stood : (test : Form → Bool) (fs : List Field) (texts : List (List ℕ)) (k : ℕ) → AreRead fs texts → form_at test fs k ≡ true → Stood test texts k
 stood test fs texts k all h =
     let at : 0 + k ≡ k = omega arith in
     let P : ℕ → Type 0 = λ i. Stood test texts i in

@@ -1,6 +1,5 @@
 -- What a cache keeps of several checks.
 use Rattle.std.proofs.Common.{◌≡◌, ◌≤◌, ◌<◌, ℕ, List, [], ◌∷◌, ◌++◌, length, slice_index_or, None, refl, sym, arith}
-use Rattle.std.specs.Prelude.{if◌then◌else◌, is_some}
 use Rattle.std.proofs.lemmas.List.{append-nil}
 use Rattle.hsm_lmk.specs.Cache.{Kept, kept_all, kept_one}
 use Rattle.hsm_lmk.specs.declared.kept.KeyEntry.{KeyEntry}

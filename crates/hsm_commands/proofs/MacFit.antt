@@ -13,9 +13,10 @@ use Rattle.hsm_rows.specs.declared.row.Field.{Field}
 use Rattle.hsm_rows.specs.declared.rules.MacFields.{MacFields}
 use Rattle.hsm_rows.specs.Forms.{text_at, hex_value, mode_is}
 use Rattle.hsm_rows.specs.Reading.{ReadText, is_end}
-use Rattle.hsm_rows.specs.Standing.{AreTexts, AreHexDigits, IsData, IsInModes, IsText, IsCount}
+use Rattle.hsm_rows.specs.Standing.{AreHexDigits, IsData, IsInModes, IsCount}
 use Rattle.hsm_answers.specs.Keys.{field_text, differs}
 use Rattle.hsm_commands.specs.Macs.{AreMacTexts}
+use Rattle.hsm_commands.specs.Plans.{IsRead, AreRead}
 use Rattle.hsm_commands.specs.Fit.{form_at, is_chain, is_data_by, is_count, is_counted, mac_fits, same_mac}
 use Rattle.hsm_commands.proofs.FormLaws.{stood, text_is, count_is}
 
@@ -25,13 +26,13 @@ less a b h = grind (arith, nat_tests)
 same_number : (a b : ℕ) → (a == b) ≡ true → a ≡ b
 same_number a b h = grind (arith, nat_tests)
 
-data_of : (i : ℕ) (f : Form) (e : List (List ℕ)) (t : List ℕ) → is_data_by i f ≡ true → IsText f e t → IsData (text_at e i) t (hex_value (text_at e (length e - 1)))
+data_of : (i : ℕ) (f : Form) (e : List (List ℕ)) (t : List ℕ) → is_data_by i f ≡ true → IsRead f e t → IsData (text_at e i) t (hex_value (text_at e (length e - 1)))
 data_of i (form.DataByInput j) e t h x =
     let P : ℕ → Type 0 = λ k. IsData (text_at e k) t (hex_value (text_at e (length e - 1))) in
     subst P (sym (same_number i j h)) x
 data_of i _ e t h x = let z : ⊥ = cc in absurd z
 
-chain_of : (f : Form) (e : List (List ℕ)) (t : List ℕ) → is_chain f ≡ true → IsText f e t → IsInModes (codes "23") e t (AreHexDigits 16 t)
+chain_of : (f : Form) (e : List (List ℕ)) (t : List ℕ) → is_chain f ≡ true → IsRead f e t → IsInModes (codes "23") e t (AreHexDigits 16 t)
 chain_of form.Mode23Chain e t h x = x
 chain_of _ e t h x = let z : ⊥ = cc in absurd z
 
@@ -44,7 +45,7 @@ there : (b : Bool) (t : List ℕ) (P : Type 0) → (b ≡ true → P) → (b ≡
 there true t P present absent h = present refl
 there false t P present absent h = let e : is_end t ≡ true = ap is_end (absent refl) in absurd (cc)
 
-module _ (fs : List Field) (r : ReadText) (texts : AreTexts fs r.texts) (f : MacFields) where
+module _ (fs : List Field) (r : ReadText) (texts : AreRead fs r.texts) (f : MacFields) where
   chain_in : nat_lt 0 f.chain ≡ true → form_at is_chain fs f.chain ≡ true
       → IsInModes (codes "23") (field_text r 0 ∷ []) (field_text r f.chain) (AreHexDigits 16 (field_text r f.chain))
   chain_in after h =

@@ -1,28 +1,22 @@
 -- What a plan keeps, for a row whose rules can be followed.
 use Rattle.std.proofs.Common.{◌≡◌, ℕ, ◌+◌, ◌≤◌, length, inl, inr, arith, Bool, true, false, List, [], ◌∷◌, Option, Some, None, refl, sym, ap, ◌∙◌, subst}
-use Rattle.std.specs.Prelude.{is_none, if◌then◌else◌}
+use Rattle.std.specs.Prelude.{is_none, if◌then◌else◌, Result, Ok, Err}
 use Rattle.hsm_auth.specs.declared.entry.Granted.{Granted}
 use Rattle.hsm_rows.specs.declared.settings.Module.{Module}
 use Rattle.hsm_rows.specs.declared.row.Code.{Code}
-use Rattle.hsm_rows.specs.Rules.{RowRules}
 use Rattle.hsm_rows.specs.Table.{RowShape, rules_of}
-use Rattle.hsm_rows.specs.Reading.{ReadText}
-use Rattle.hsm_rows.specs.Standing.{AreTexts}
+use Rattle.hsm_rows.specs.Reading.{ReadText, reading}
 use Rattle.hsm_answers.specs.declared.plans.Checked.{Checked}
 use Rattle.hsm_answers.specs.declared.plans.Checked.TheVariants.{Unread, Failed, Passed}
 use Rattle.hsm_answers.specs.Keys.{first_code}
-use Rattle.hsm_answers.specs.Checks.{check_before, check_after, is_refused}
-use Rattle.hsm_answers.specs.Asks.{row_ask}
-use Rattle.hsm_answers.specs.Plans.{fault_at, code_number}
-use Rattle.hsm_answers.specs.Values.{row_value, chain_value}
+use Rattle.hsm_answers.specs.Checks.{is_refused}
+use Rattle.hsm_answers.specs.Asks.{ask_of, ask_read, empty_ask}
+use Rattle.hsm_answers.specs.Plans.{IsPlanned, IsChecked, AreFields, fields_text, fault_at, code_number}
+use Rattle.hsm_auth.specs.History.{CanAsk}
 use Rattle.std.specs.Option.{option_map}
 use Rattle.hsm_auth.specs.declared.entry.Ask.{Ask}
-use Rattle.hsm_commands.specs.declared.keys.OpenedKeys.{OpenedKeys}
 use Rattle.hsm_commands.specs.declared.terms.HeldParts.{HeldParts}
-use Rattle.hsm_commands.specs.Opened.{KeysHold}
-use Rattle.hsm_commands.specs.Demands.{IsLeft}
-use Rattle.hsm_commands.specs.Written.{written_text}
-use Rattle.hsm_commands.specs.Plans.{IsFollowed, IsReady, RowStands, FitsText}
+use Rattle.hsm_commands.specs.Plans.{AreRead, AreChecked, IsFollowed, IsHeld, IsReady, FitsText}
 
 -- the checks before the entry held, and none after it fails, where the message is answered 00
 late_none : (refused : Bool) (late : Option Code) → first_code ((if refused then Some 17 else None) ∷ option_map code_number late ∷ []) ≡ None → late ≡ None
@@ -42,44 +36,62 @@ passed_none checked g (Some code) e h = let z : ⊥ = cc in absurd z
 pub passed_by : (checked : Checked) (g : Granted) (good : Bool) → good ≡ is_none (fault_at checked g) → good ≡ true → checked ≡ Passed None
 passed_by checked g good e h = passed_none checked g (fault_at checked g) refl (sym e ∙ h)
 
--- the reply fields have room after the reply code and the error code
-pub room_before : (echo : Bool) (size old coded : ℕ) (text trailer : List ℕ) → FitsText echo size text trailer → coded ≡ old + 4 → old ≤ 255
+-- the reply fields have room after the reply code and the error code, or after `OK`
+pub room_before : (echo : Bool) (size old coded : ℕ) (text trailer : List ℕ) → FitsText echo size text trailer → coded ≤ old + 4 → old ≤ 255
     → (echo ≡ true → old + length text ≤ 65534) → coded + size ≤ 65535
 room_before echo size old coded text trailer (inl short) grown few whole = omega arith
 room_before echo size old coded text trailer (inr inside) grown few whole = omega (arith, whole inside.0, inside.1)
 
--- the trailer has room where there are none
-pub room_alone : (old coded : ℕ) (trailer : List ℕ) → coded ≡ old + 4 → length trailer ≤ 33 → old ≤ 255 → coded + length trailer ≤ 65535
-room_alone old coded trailer grown tail few = omega arith
-
--- and after them
-pub room_after : (echo : Bool) (size old coded filled : ℕ) (text trailer : List ℕ) → FitsText echo size text trailer → coded ≡ old + 4
+-- and the trailer after them
+pub room_after : (echo : Bool) (size old coded filled : ℕ) (text trailer : List ℕ) → FitsText echo size text trailer → coded ≤ old + 4
     → filled ≤ coded + size → length trailer ≤ 33 → old ≤ 255 → (echo ≡ true → old + length text ≤ 65534) → filled + length trailer ≤ 65535
 room_after echo size old coded filled text trailer (inl short) grown more tail few whole = omega arith
 room_after echo size old coded filled text trailer (inr inside) grown more tail few whole = omega (arith, whole inside.0, inside.1)
 
-module _ (m : Module) (row : RowShape) (rules : RowRules) (same : rules ≡ rules_of row) (followed : IsFollowed row) (r : ReadText) (texts : AreTexts row.fields r.texts) where
-  -- the rules can be followed
-  pub stands : RowStands m rules row.terms r
-  stands = let P : RowRules → Type 0 = λ x. RowStands m x row.terms r in subst P (sym same) (followed.stands m r texts)
+-- what is planned of a text of the row
+module _ (m : Module) (row : RowShape) (text : List ℕ) where
+  pub unread_planned : (ask : Ask) (checked : Checked) (code : Code) (fields : Granted → List ℕ) → reading row text ≡ Err code → ask ≡ empty_ask → checked ≡ Unread code
+      → IsPlanned m row text ask checked [] fields
+  unfolding ask_of ask_read
+  unread_planned ask checked code fields e a h =
+      let C : Result ReadText Code → Type 0 = λ x. IsChecked m row x (Unread code) [] in
+      let F : Granted → Result ReadText Code → Type 0 = λ g x. AreFields m row x (Unread code) g (fields g) in
+      let P : Ask → Checked → Type 0 = λ x y. IsPlanned m row text x y [] fields in
+      let planned : P empty_ask (Unread code) = record {
+        asked = sym (ap (ask_read m (rules_of row)) e);
+        may = omega arith;
+        checks = subst C (sym e) (refl, refl);
+        short = omega arith;
+        answers = λ g. subst (F g) (sym e) tt;
+      } in
+      subst (λ x. P ask x) (sym h) (subst (λ x. P x (Unread code)) (sym a) planned)
 
-  -- a check before the entry fails, or none does
-  pub before_is : (fault : Option ℕ) → fault ≡ check_before m rules r → check_before m (rules_of row) r ≡ fault
-  before_is fault h = ap (λ (x : RowRules). check_before m x r) (sym same) ∙ sym h
+  checked_is : (r : ReadText) (checked : Checked) → AreChecked m (rules_of row) r checked → IsChecked m row (Ok r) checked r.trailer
+  checked_is r (Unread code) h = absurd h
+  checked_is r (Failed code) h = record { fault = h; rest = refl }
+  checked_is r (Passed late) h = record { before = h.0; after = h.1; rest = refl }
 
-  -- the first check after it that fails
-  pub after_is : (late : Option ℕ) → late ≡ check_after m rules r → late ≡ check_after m (rules_of row) r
-  after_is late h = h ∙ ap (λ (x : RowRules). check_after m x r) same
+  pub read_planned : (ask : Ask) (checked : Checked) (r : ReadText) → reading row text ≡ Ok r → ask ≡ ask_read m (rules_of row) (Ok r) → CanAsk ask
+      → AreChecked m (rules_of row) r checked → length r.trailer ≤ 33 → IsPlanned m row text ask checked r.trailer (λ g. fields_text m (rules_of row) row g r)
+  unfolding ask_of
+  read_planned ask checked r e a may h short =
+      let C : Result ReadText Code → Type 0 = λ x. IsChecked m row x checked r.trailer in
+      let F : Granted → Result ReadText Code → Type 0 = λ g x. AreFields m row x checked g (fields_text m (rules_of row) row g r) in
+      record {
+        asked = a ∙ sym (ap (ask_read m (rules_of row)) e);
+        may = may;
+        checks = subst C (sym e) (checked_is r checked h);
+        short = short;
+        answers = λ g. subst (F g) (sym e) (λ none. refl);
+      }
 
-  -- its ask
-  pub ask_is : (ask : Ask) → ask ≡ row_ask m rules r rules.ask → ask ≡ row_ask m (rules_of row) r (rules_of row).ask
-  ask_is ask h = h ∙ ap (λ (x : RowRules). row_ask m x r x.ask) same
-
-  -- what is held is what the reply fields need
-  pub ready_is : (keys : OpenedKeys) (held : HeldParts) → KeysHold m rules r rules.keys keys → held.keys ≡ keys → IsLeft m rules r held.pin
-      → written_text held.value ≡ row_value m rules r rules.value → written_text held.chain ≡ chain_value m rules r rules.value → IsReady m (rules_of row) row.terms r held
-  ready_is keys held hold kept left value chain =
-      let P : RowRules → Type 0 = λ x. IsReady m x row.terms r held in
-      let K : OpenedKeys → Type 0 = λ x. KeysHold m rules r rules.keys x in
-      let s = stands.steps held.keys (subst K (sym kept) hold) in
-      subst P same (record { pin = s.pin; left = left; fields = s.fields; value = value; chain = chain })
+-- what is held is what the reply fields need
+pub ready_is : (m : Module) (row : RowShape) (followed : IsFollowed row) (r : ReadText) → AreRead row.fields r.texts → (held : HeldParts) → IsHeld m (rules_of row) r held
+    → IsReady m (rules_of row) row.terms r held
+ready_is m row followed r texts held h = record {
+  pin = ((followed.stands m r texts).steps held.keys h.keys).pin;
+  left = h.left;
+  fields = followed.terms m r texts held.keys h.keys;
+  value = h.value;
+  chain = h.chain;
+}

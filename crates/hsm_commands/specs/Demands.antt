@@ -26,9 +26,10 @@ use Rattle.hsm_answers.specs.Pins.{given_pin, number_at}
 use Rattle.hsm_answers.specs.Macs.{mac_algorithm, mac_fault}
 use Rattle.hsm_answers.specs.Draws.{drawn_key}
 use Rattle.hsm_answers.specs.Checks.{checks_fault}
-use Rattle.hsm_answers.specs.Values.{made_parts}
+use Rattle.hsm_answers.specs.Values.{made_parts, made_scheme}
 use Rattle.hsm_commands.specs.declared.keys.OpenedKeys.{OpenedKeys}
 use Rattle.hsm_commands.specs.Opened.{key_by}
+use Rattle.hsm_commands.specs.Components.{AreComponents}
 use Rattle.hsm_commands.specs.Macs.{AreMacTexts}
 
 -- ---- the PIN and the random words of a row
@@ -118,6 +119,8 @@ pub data Demand : Type 0 where
   fits_scheme : Secret → Demand
   -- a key that can be written under that of field kek, where both are there
   can_wrap : Secret → ℕ → Demand
+  -- the components of the key that is made
+  has_components : List ℕ → Demand
 
 -- the field of a PIN's account
 abbrev pub account_field : PinSource → Option ℕ
@@ -168,6 +171,7 @@ module _ (m : Module) (rules : RowRules) (r : ReadText) (keys : OpenedKeys) wher
   Met (has_least k) = checks_fault m rules r ≡ None → number_at r k ≤ length (given_pin m rules r)
   Met (fits_scheme s) = secret_parts m rules r s ≡ made_parts rules r
   Met (can_wrap s kek) = (is_absent r kek || is_absent r rules.made.wrap_scheme) ≡ false → CanWrap s kek
+  Met (has_components ks) = AreComponents (made_scheme rules r) r ks
 
   -- all of them are met
   abbrev pub AllMet : List Demand → Type 0
@@ -218,19 +222,19 @@ word_demands rules (AsLength k) = has_length k ∷ []
 word_demands rules (FillOf k) = so (holds_pin rules) ∷ []
 
 -- a key whose neighbouring parts must differ, before the entry
-abbrev pub parts_demands : Option Secret → List Demand
-parts_demands None = []
-parts_demands (Some (Opened k)) = has_key k ∷ []
-parts_demands (Some (OpenedUnder k kek)) = has_key_under k kek ∷ []
-parts_demands (Some DrawnKey) = so false ∷ []
-parts_demands (Some Joined) = so false ∷ []
+abbrev pub parts_demands : RowRules → Option Secret → List Demand
+parts_demands rules None = []
+parts_demands rules (Some (Opened k)) = has_key k ∷ []
+parts_demands rules (Some (OpenedUnder k kek)) = has_key_under k kek ∷ []
+parts_demands rules (Some DrawnKey) = so false ∷ []
+parts_demands rules (Some Joined) = has_components rules.components ∷ []
 
 -- a key at the entry
 abbrev pub secret_demands : RowRules → Secret → List Demand
 secret_demands rules (Opened k) = has_key k ∷ []
 secret_demands rules (OpenedUnder k kek) = has_key_under k kek ∷ []
 secret_demands rules DrawnKey = so (draws_key rules.words) ∷ []
-secret_demands rules Joined = so false ∷ []
+secret_demands rules Joined = has_components rules.components ∷ []
 
 -- a PIN at the entry
 abbrev pub entry_pin_demands : RowRules → List Demand
@@ -251,12 +255,12 @@ public_demands rules Chain = []
 public_demands rules LmkCheck = []
 public_demands rules LiveGrants = []
 public_demands rules Hosts = []
-public_demands rules Done = so false ∷ []
-public_demands rules Cancelled = so false ∷ []
-public_demands rules Grants = so false ∷ []
-public_demands rules Numbers = so false ∷ []
-public_demands rules Notes = so false ∷ []
-public_demands rules (ShowKey s) = so false ∷ []
+public_demands rules Done = []
+public_demands rules Cancelled = []
+public_demands rules Grants = []
+public_demands rules Numbers = []
+public_demands rules Notes = []
+public_demands rules (ShowKey s) = secret_demands rules s
 public_demands rules ShowPin = entry_pin_demands rules
 
 -- the same of a row's term
@@ -284,9 +288,9 @@ key_drawn m rules r place = if draws_key rules.words then Some (drawn_key m plac
 abbrev pub term_room : ReadText → Term → ℕ
 term_room r (plain_text t) = length t
 term_room r (term (Given k)) = length (field_text r k)
-term_room r (term _) = 600
+term_room r (term _) = 4000
 
--- room for all of them
+-- room for all of them, each after one space
 abbrev pub terms_room : ReadText → List Term → ℕ
 terms_room r [] = 0
-terms_room r (t ∷ ts) = term_room r t + terms_room r ts
+terms_room r (t ∷ ts) = 1 + term_room r t + terms_room r ts

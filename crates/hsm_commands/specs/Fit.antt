@@ -16,11 +16,13 @@ use Rattle.hsm_rows.specs.declared.rules.Under.TheVariants.{Lmk, KeyAt}
 use Rattle.hsm_rows.specs.declared.rules.DataCheck.{DataCheck}
 use Rattle.hsm_rows.specs.declared.rules.DataCheck.TheVariants.{TableCheck, PinCheck, LongerThan, ShorterThan, MacCheck}
 use Rattle.hsm_rows.specs.declared.rules.MacFields.{MacFields}
+use Rattle.hsm_rows.specs.declared.rules.AskKind.{AskKind}
+use Rattle.hsm_rows.specs.declared.rules.AskKind.TheVariants.{AuthoriseAsk}
 use Rattle.hsm_rows.specs.Rules.{RowRules}
 use Rattle.hsm_rows.specs.Table.{RowShape, Term, plain_text, term, rules_of}
 use Rattle.hsm_rows.specs.Reading.{is_console}
-use Rattle.hsm_commands.specs.Demands.{Demand, so, has_digits, has_hex16, has_length, has_clear_pin, has_validation, has_pan, has_account, account_field, has_mac_texts, has_key, has_pair, has_key_under, fits_algorithm, has_sound_data, has_least, fits_scheme, can_wrap, have_pin, pin_demands, check_demands, value_demands, word_demands, parts_demands, term_demands}
-use Rattle.hsm_commands.specs.Plans.{is_asked, echoes}
+use Rattle.hsm_commands.specs.Demands.{Demand, so, has_digits, has_hex16, has_length, has_clear_pin, has_validation, has_pan, has_account, account_field, has_mac_texts, has_key, has_pair, has_key_under, fits_algorithm, has_sound_data, has_least, fits_scheme, can_wrap, has_components, have_pin, pin_demands, check_demands, value_demands, word_demands, parts_demands, term_demands}
+use Rattle.hsm_commands.specs.Plans.{echoes}
 
 -- ---- forms
 
@@ -88,6 +90,27 @@ is_data_by i _ = false
 abbrev pub is_chain : Form → Bool
 is_chain form.Mode23Chain = true
 is_chain _ = false
+
+-- the scheme of a key under the LMK
+abbrev pub is_scheme_form : Form → Bool
+is_scheme_form form.Scheme = true
+is_scheme_form _ = false
+
+-- a component of a key of the scheme in field j
+abbrev pub is_component : ℕ → Form → Bool
+is_component j (form.Component i) = j == i
+is_component j _ = false
+
+-- the same, or one that may be left out
+abbrev pub may_be_component : ℕ → Form → Bool
+may_be_component j (form.Component i) = j == i
+may_be_component j (form.LastComponent i) = j == i
+may_be_component j _ = false
+
+-- the minutes of a grant
+abbrev pub is_minutes_form : Form → Bool
+is_minutes_form form.Minutes = true
+is_minutes_form _ = false
 
 -- field k has a form that passes the test
 abbrev pub form_at : (Form → Bool) → List Field → ℕ → Bool
@@ -251,7 +274,7 @@ abbrev pub sealed_fits : RowRules → Secret → Bool
 sealed_fits rules (secret.Opened k) = sizes_in k rules.made.scheme rules.keys
 sealed_fits rules (secret.OpenedUnder k kek) = sizes_under k kek rules.made.scheme rules.keys
 sealed_fits rules secret.DrawnKey = true
-sealed_fits rules secret.Joined = false
+sealed_fits rules secret.Joined = true
 
 -- and under a wrapping key
 abbrev pub wrapped_fits : RowRules → Secret → Bool
@@ -264,6 +287,16 @@ wrapped_fits rules secret.Joined = false
 abbrev pub has_twelve : List Field → Option ℕ → Bool
 has_twelve fs None = false
 has_twelve fs (Some k) = form_at (is_digits 12) fs k
+
+-- the fields are components of a key of the scheme in the earlier field j, or may be left out
+abbrev pub others_fit : List Field → ℕ → List ℕ → Bool
+others_fit fs j [] = true
+others_fit fs j (k ∷ ks) = (nat_lt j k && form_at (may_be_component j) fs k) && others_fit fs j ks
+
+-- the same, and the first is never left out
+abbrev pub components_fit : List Field → ℕ → List ℕ → Bool
+components_fit fs j [] = false
+components_fit fs j (k ∷ ks) = form_at is_scheme_form fs j && ((nat_lt j k && form_at (is_component j) fs k) && others_fit fs j ks)
 
 module _ (fs : List Field) (rules : RowRules) where
   -- the row meets the demand, whatever texts are read
@@ -285,6 +318,7 @@ module _ (fs : List Field) (rules : RowRules) where
   meets (has_least k) = has_shorter k rules.checks
   meets (fits_scheme s) = sealed_fits rules s
   meets (can_wrap s kek) = wraps_in kek rules.keys && wrapped_fits rules s
+  meets (has_components ks) = components_fit fs rules.made.scheme ks
 
   -- all of them
   abbrev pub meets_all : List Demand → Bool
@@ -315,11 +349,16 @@ echoes_second _ _ = false
 abbrev pub room_fits : List Field → List Term → Bool
 room_fits fs ts = if echoes ts then echoes_second fs ts else are_short fs ts
 
+-- an authorisation has its minutes in field 1
+abbrev pub ask_fits : List Field → AskKind → Bool
+ask_fits fs AuthoriseAsk = form_at is_minutes_form fs 1
+ask_fits fs _ = true
+
 -- the steps of the rules of a row have what they demand
 abbrev pub all_fit : List Field → RowRules → List Term → List Bool
 all_fit fs rules terms =
-    nat_le (length fs) 12 ∷ nat_le (length terms) 9 ∷ keys_fit rules.keys ∷ have_pin false rules.checks ∷ is_asked rules.ask
-    ∷ meets_all fs rules (parts_demands rules.parts_differ) ∷ meets_all fs rules (pin_demands rules.pin) ∷ meets_each fs rules (map (check_demands rules.pin) rules.checks)
+    nat_le (length fs) 12 ∷ nat_le (length terms) 9 ∷ keys_fit rules.keys ∷ have_pin false rules.checks ∷ ask_fits fs rules.ask
+    ∷ meets_all fs rules (parts_demands rules rules.parts_differ) ∷ meets_all fs rules (pin_demands rules.pin) ∷ meets_each fs rules (map (check_demands rules.pin) rules.checks)
     ∷ meets_all fs rules (value_demands rules rules.value) ∷ meets_all fs rules (word_demands rules rules.words) ∷ meets_each fs rules (map (term_demands rules) terms) ∷ []
 
 -- every test holds
@@ -327,9 +366,9 @@ abbrev pub all_true : List Bool → Bool
 all_true [] = true
 all_true (b ∷ bs) = b && all_true bs
 
--- the row is a host's, and its rules fit its forms
+-- the row is the console's or has a reply code of two characters, and its rules fit its forms
 unfoldable pub rules_fit : RowShape → Bool
-rules_fit row = ((not (is_console row) && length row.reply == 2) && room_fits row.fields row.terms) && all_true (all_fit row.fields (rules_of row) row.terms)
+rules_fit row = ((is_console row || length row.reply == 2) && room_fits row.fields row.terms) && all_true (all_fit row.fields (rules_of row) row.terms)
 
 -- the family is that of the data commands
 abbrev pub is_data : Family → Bool
@@ -340,6 +379,10 @@ is_data _ = false
 abbrev pub is_console_family : Family → Bool
 is_console_family family.Console = true
 is_console_family _ = false
+
+-- the rules of the row fit, and it echoes no text
+abbrev pub fits_console : RowShape → Bool
+fits_console row = rules_fit row && not (echoes row.terms)
 
 -- the rules of the row fit, it is of a host's family, and it echoes a text only if it is a data command's
 abbrev pub fits_host : RowShape → Bool

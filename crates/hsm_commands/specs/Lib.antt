@@ -3,6 +3,7 @@ pub mod Opened
 pub mod Written
 pub mod Needs
 pub mod Macs
+pub mod Components
 pub mod Demands
 pub mod Request
 pub mod Plans

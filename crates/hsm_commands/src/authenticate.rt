@@ -145,7 +145,7 @@ fn data_value(request: &Request<'_, '_>, f: &MacFields, key: &Key) -> u64
     let hexadecimal = same_text(text_of(request, f.input), b"1");
     match value_of_data(key, &asked, hexadecimal, text_of(request, f.message)) {
         Ok(value) => value,
-        // the data has no fault
+        // the data checks hold, and one of them is that of this data
         Err(_) => unreachable!(),
     }
 }

@@ -18,6 +18,7 @@ ghost use Rattle.hsm_commands.specs.Demands.{parts_demands};
 ghost use Rattle.hsm_commands.specs.Opened.{IsLmkKey, KeyStands, KeyHolds, KeysStand, KeysHold};
 ghost use Rattle.hsm_commands.specs.Request.{Meets, module_of, row_rules, texts_of};
 
+use crate::joining::joined_key;
 use crate::keys::{FieldKey, OpenedKeys, found_in, held_key};
 use crate::needs::{act_permit, is_used, type_of};
 use crate::request::Request;
@@ -240,15 +241,16 @@ pub(crate) fn permit_code(request: &Request<'_, '_>, acts: &[ActUse]) -> Option<
 // 75 where a part of the row's key equals the part before it.
 #[tactic(auto, unfolding(hsm_answers::specs::Checks::parts_fault, hsm_answers::specs::Values::secret_key))]
 fn parts_code(request: &Request<'_, '_>, keys: &OpenedKeys) -> Option<Code>
-    requires { Meets request.now keys.now (parts_demands (row_rules request.now).parts_differ) }
+    requires { Meets request.now keys.now (parts_demands (row_rules request.now) (row_rules request.now).parts_differ) }
     ensures { option_map code_number result ≡ parts_fault (module_of request.now) (row_rules request.now) (texts_of request.now) (row_rules request.now).parts_differ }
 {
     let key = match request.rules.parts_differ {
         None => return None,
         Some(Secret::Opened(k)) => held_key(keys, k),
         Some(Secret::OpenedUnder { field, .. }) => held_key(keys, field),
-        // no host row draws or joins a key before its entry
-        Some(Secret::DrawnKey | Secret::Joined) => unreachable!(),
+        Some(Secret::Joined) => joined_key(request),
+        // no key is drawn before the entry
+        Some(Secret::DrawnKey) => unreachable!(),
     };
     if repeats_part(&key) {
         Some(Code(75))
@@ -266,7 +268,7 @@ pub(crate) fn check_before(
     requires agrees { Agrees (module_of request.now).lmk (kept_in cache.old).entries }
     requires keys { KeysStand (module_of request.now) (row_rules request.now) (texts_of request.now) (row_rules request.now).keys }
     requires parts { (keys : OpenedKeys) → KeysHold (module_of request.now) (row_rules request.now) (texts_of request.now) (row_rules request.now).keys keys
-        → Meets request.now keys (parts_demands (row_rules request.now).parts_differ) }
+        → Meets request.now keys (parts_demands (row_rules request.now) (row_rules request.now).parts_differ) }
     ensures fault { code_in result ≡ check_before (module_of request.now) (row_rules request.now) (texts_of request.now) }
     ensures keys { IfOk result (λ keys. KeysHold (module_of request.now) (row_rules request.now) (texts_of request.now) (row_rules request.now).keys keys) }
     ensures agrees { Agrees (module_of request.now).lmk (kept_in cache.new).entries }

@@ -50,7 +50,7 @@ pub(crate) fn pin_given(
             opened_pin(&request.module.lmk, block_of_field(request, text), &account)
         }
         PinSource::ClearPin { text, account: _ } => clear_pin(text_of(request, text)),
-        // no PIN is given
+        // a row that checks its PIN gives one
         PinSource::NoPin | PinSource::DrawnPin { .. } => unreachable!(),
     }
 }
@@ -94,7 +94,7 @@ fn check_one(
         },
         DataCheck::ShorterThan(k) => match pin {
             Some(held) => code_of(shorter(number_at(request, k), &held), pin),
-            // as above
+            // a PIN's length is checked after the PIN
             None => unreachable!(),
         },
         DataCheck::MacCheck(f) => code_of(mac_code(request, &f), pin),

@@ -48,6 +48,7 @@ pub(crate) fn held_key(keys: &OpenedKeys, k: u8) -> Key
 {
     match key_by(keys, k) {
         Some(key) => key,
+        // the row has a check that opens it
         None => unreachable!(),
     }
 }

@@ -1,21 +1,24 @@
 //! The reply fields of a message.
-ghost use Rattle.std.specs.Prelude.{◌≡◌, ◌≤◌, ◌<◌, ◌+◌, ◌||◌, ◌^◌, ◌++◌, false, true, ℕ, List, length, flat_map, map, is_some, IfSome};
+ghost use Rattle.std.specs.Prelude.{◌≡◌, ◌≤◌, ◌<◌, ◌+◌, ◌||◌, ◌^◌, ◌∷◌, [], ◌++◌, false, true, length, filter, map, is_some, IfSome};
 ghost use Rattle.hsm_rows.specs.Table.{term_of};
 ghost use Rattle.hsm_rows.specs.declared.row.Public.TheVariants.{Sealed, SealedUnder, SealedPin, BlockUnder};
 ghost use Rattle.hsm_answers.specs.Keys.{is_absent};
 ghost use Rattle.hsm_answers.specs.Pins.{pin_of};
-ghost use Rattle.hsm_answers.specs.Values.{secret_key, value_of, value, values, first_of, live_of};
+ghost use Rattle.hsm_answers.specs.Answers.{is_present};
+ghost use Rattle.hsm_answers.specs.Values.{secret_key, value_of, value, values, first_of, spaced};
 ghost use Rattle.hsm_commands.specs.Demands.{key_drawn, pin_at_end, pin_demands, pin_there, public_demands, secret_demands, secret_parts, term_demands, term_room, terms_room};
-ghost use Rattle.hsm_commands.specs.Plans.{IsAtEntry};
+ghost use Rattle.hsm_commands.specs.Plans.{IsAtEntry, written_fields};
 ghost use Rattle.hsm_commands.specs.Request.{Meets, Leaves, module_of, row_rules, texts_of};
 ghost use Rattle.hsm_commands.specs.Entries.{Has, HasEach, Stands, public_at, term_at, rules_at, texts_at, place_at};
 
+use crate::joining::joined_key;
 use crate::keys::{OpenedKeys, held_key};
+use crate::lists::{live_of, put_cancelled, put_clear, put_grants, put_notes, put_numbers};
 use crate::needs::type_of;
 use crate::request::Request;
 use crate::texts::{format_of, number_at, text_of};
 use crate::value::{Written, account_of, held_pin};
-use crate::written::{block_drawn, filled_to_twelve, put_sealed};
+use crate::written::{BlockAsked, block_drawn, filled_to_twelve, put_sealed};
 use hsm_answers::{draw_key, draw_pin, first_of, put_block, put_key, scheme_named};
 use hsm_auth::Granted;
 use hsm_lmk::{lmk_check, wrapping_pair};
@@ -93,11 +96,10 @@ fn secret_key(entry: &Entry<'_, '_>, secret: Secret) -> Key
         Secret::OpenedUnder { field, .. } => held_key(&entry.held.keys, field),
         Secret::DrawnKey => match entry.key {
             Some(key) => key,
-            // the row draws a key
+            // a row that writes a drawn key draws one
             None => unreachable!(),
         },
-        // no host row joins a key
-        Secret::Joined => unreachable!(),
+        Secret::Joined => joined_key(entry.request),
     }
 }
 
@@ -160,7 +162,7 @@ fn entry_pin(entry: &Entry<'_, '_>) -> Pin
 {
     match entry.pin {
         Some(pin) => pin,
-        // the row gives or draws a PIN
+        // a row that writes its PIN gives or draws one
         None => unreachable!(),
     }
 }
@@ -191,28 +193,17 @@ fn put_pin_block(entry: &Entry<'_, '_>, format: u8, key: u8, reply: &mut Reply)
     let request = entry.request;
     let account = account_of(request);
     let pin = held_pin(request, &entry.held.pin);
-    let block = block_drawn(
-        request.module,
-        format_of(request, format),
-        &pin,
-        &account,
-        first_of(entry.granted),
-    );
+    let asked = BlockAsked {
+        format: format_of(request, format),
+        account,
+        place: first_of(entry.granted),
+    };
+    let block = block_drawn(request.module, &asked, &pin);
     put_block(reply, encipher(&held_key(&entry.held.keys, key), block));
 }
 
-// The number of live grants that were seen.
-fn live_grants(granted: &Granted) -> u8
-    ensures { result ≡ length (live_of granted.now) }
-{
-    match granted {
-        Granted::Seen { grants, .. } => grants.len() as u8,
-        _ => 0,
-    }
-}
-
 // Appends a reply field.
-#[tactic(auto, unfolding(hsm_answers::specs::Values::value_of, hsm_answers::specs::Values::shown_pin))]
+#[tactic(auto, unfolding(hsm_answers::specs::Values::value_of, hsm_answers::specs::Values::shown_pin, hsm_answers::specs::Values::shown_key))]
 fn put_term(entry: &Entry<'_, '_>, term: &Public, reply: &mut Reply)
     requires stands { Has entry.now (term_demands (rules_at entry.now) (term_of term.now)) }
     requires entry { Stands entry.now }
@@ -233,15 +224,14 @@ fn put_term(entry: &Entry<'_, '_>, term: &Public, reply: &mut Reply)
         Public::Value => reply.put(entry.held.value.text()),
         Public::Chain => reply.put(entry.held.chain.text()),
         Public::LmkCheck => put_block(reply, lmk_check(&entry.request.module.lmk)),
-        Public::LiveGrants => reply.put(&Code(live_grants(entry.granted)).digits()),
+        Public::LiveGrants => reply.put(&Code(live_of(entry.granted).len() as u8).digits()),
         Public::Hosts => reply.put(&Code(entry.request.module.hosts).digits()),
-        // the console's fields
-        Public::Done
-        | Public::Cancelled
-        | Public::Grants
-        | Public::Numbers
-        | Public::Notes
-        | Public::ShowKey(_) => unreachable!(),
+        Public::Done => {}
+        Public::Cancelled => put_cancelled(entry.granted, reply),
+        Public::Grants => put_grants(entry.granted, reply),
+        Public::Numbers => put_numbers(entry.granted, reply),
+        Public::Notes => put_notes(entry.granted, reply),
+        Public::ShowKey(secret) => put_clear(&secret_key(entry, *secret), reply),
     }
 }
 
@@ -250,7 +240,7 @@ pub(crate) fn put_terms(entry: &Entry<'_, '_>, terms: &[Public], reply: &mut Rep
     requires stands { HasEach entry.now (map (term_demands (rules_at entry.now)) (map term_of terms.now)) }
     requires entry { Stands entry.now }
     requires room { length reply.old + terms_room (texts_at entry.now) (map term_of terms.now) ≤ 65535 }
-    ensures text { reply.new ≡ reply.old ++ flat_map (λ (field : List ℕ). field) (values (module_of entry.now.request.now) (rules_at entry.now) (texts_at entry.now) entry.now.granted.now (map term_of terms.now)) }
+    ensures text { reply.new ≡ reply.old ++ written_fields false (values (module_of entry.now.request.now) (rules_at entry.now) (texts_at entry.now) entry.now.granted.now (map term_of terms.now)) }
     ensures grown { length reply.new ≤ length reply.old + terms_room (texts_at entry.now) (map term_of terms.now) }
 {
     match terms {
@@ -258,6 +248,41 @@ pub(crate) fn put_terms(entry: &Entry<'_, '_>, terms: &[Public], reply: &mut Rep
         [term, more @ ..] => {
             put_term(entry, term, reply);
             put_terms(entry, more, reply);
+        }
+    }
+}
+
+// Appends a reply field after one space, where it is there: it is written by itself before, which shows whether it is. Its
+// room is taken in this call alone.
+#[inline(never)]
+fn put_after_space(entry: &Entry<'_, '_>, term: &Public, reply: &mut Reply)
+    requires stands { Has entry.now (term_demands (rules_at entry.now) (term_of term.now)) }
+    requires entry { Stands entry.now }
+    requires room { length reply.old + 1 + term_room (texts_at entry.now) (term_of term.now) ≤ 65535 }
+    ensures text { reply.new ≡ reply.old ++ spaced (filter is_present (term_at entry.now (term_of term.now) ∷ [])) }
+    ensures grown { length reply.new ≤ length reply.old + 1 + term_room (texts_at entry.now) (term_of term.now) }
+{
+    let mut field = Reply::new();
+    put_term(entry, term, &mut field);
+    if !field.bytes().is_empty() {
+        reply.put(b" ");
+        reply.put(field.bytes());
+    }
+}
+
+// Appends the reply fields that are there, each after one space.
+pub(crate) fn put_spaced(entry: &Entry<'_, '_>, terms: &[Public], reply: &mut Reply)
+    requires stands { HasEach entry.now (map (term_demands (rules_at entry.now)) (map term_of terms.now)) }
+    requires entry { Stands entry.now }
+    requires room { length reply.old + terms_room (texts_at entry.now) (map term_of terms.now) ≤ 65535 }
+    ensures text { reply.new ≡ reply.old ++ written_fields true (values (module_of entry.now.request.now) (rules_at entry.now) (texts_at entry.now) entry.now.granted.now (map term_of terms.now)) }
+    ensures grown { length reply.new ≤ length reply.old + terms_room (texts_at entry.now) (map term_of terms.now) }
+{
+    match terms {
+        [] => {}
+        [term, more @ ..] => {
+            put_after_space(entry, term, reply);
+            put_spaced(entry, more, reply);
         }
     }
 }

@@ -19,7 +19,7 @@ use crate::card::cvv_text;
 use crate::keys::{OpenedKeys, held_key};
 use crate::request::Request;
 use crate::texts::{digits_of, number_at, text_of};
-use crate::values::{offset_text, pvv_text};
+use crate::values::{OffsetAsked, offset_text, pvv_text};
 use hsm_answers::{compared, pair_of};
 use hsm_rows::{Code, PinSource, ValueSource};
 use hsm_types::Pin;
@@ -82,7 +82,7 @@ pub(crate) fn account_of(request: &Request<'_, '_>) -> [u8; 12]
         | PinSource::LmkPin { account, .. }
         | PinSource::ClearPin { account, .. }
         | PinSource::DrawnPin { account, .. } => digits_of(request, account),
-        // there is no PIN
+        // a row that uses the account of its PIN has one
         PinSource::NoPin => unreachable!(),
     }
 }
@@ -145,19 +145,15 @@ pub(crate) fn value_of(
             validation,
             check,
         } => {
-            let account = account_of(request);
-            let table = digits_of(request, table);
+            let asked = OffsetAsked {
+                table: digits_of(request, table),
+                validation: text_of(request, validation),
+                account: account_of(request),
+                check: number_at(request, check),
+            };
             let pvk = held_key(keys, pvk);
-            let check = number_at(request, check);
             let pin = held_pin(request, pin);
-            alone(Written::Twelve(offset_text(
-                &pvk,
-                &table,
-                text_of(request, validation),
-                &account,
-                &pin,
-                check,
-            )))
+            alone(Written::Twelve(offset_text(&pvk, &asked, &pin)))
         }
         ValueSource::CvvOf {
             pair,

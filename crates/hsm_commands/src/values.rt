@@ -61,22 +61,26 @@ fn validation_block(text: &[u8], account: &[u8; 12]) -> u64
     block_of(&validation_nibbles(text, account))
 }
 
-// The offset of the PIN's first `check` digits.
-pub(crate) fn offset_text(
-    pvk: &Key,
-    table: &[u8; 16],
-    validation: &[u8],
-    account: &[u8; 12],
-    pin: &Pin,
-    check: usize,
-) -> [u8; 12]
-    requires validation { IsValidation validation.now }
-    requires account { IsTrue (list_all is_decimal account.now) }
-    requires check { check ≤ length pin.now }
-    ensures { result ≡ offset_text pvk.now table.now validation.now account.now pin.now check }
+// What an offset is made of beside the key and the PIN: the decimalisation table, the validation data, the account, and
+// of how many digits it is.
+#[derive(Clone, Copy)]
+pub(crate) struct OffsetAsked<'a> {
+    pub(crate) table: [u8; 16],
+    pub(crate) validation: &'a [u8],
+    pub(crate) account: [u8; 12],
+    pub(crate) check: usize,
+}
+
+// The offset of the PIN's first digits.
+pub(crate) fn offset_text(pvk: &Key, asked: &OffsetAsked<'_>, pin: &Pin) -> [u8; 12]
+    requires validation { IsValidation asked.now.validation.now }
+    requires account { IsTrue (list_all is_decimal asked.now.account) }
+    requires check { asked.now.check ≤ length pin.now }
+    ensures { result ≡ offset_text pvk.now asked.now.table asked.now.validation.now asked.now.account pin.now asked.now.check }
 {
-    let natural = natural_pin(pvk, table, validation_block(validation, account));
-    characters(&offset(&natural, pin, check))
+    let block = validation_block(asked.validation, &asked.account);
+    let natural = natural_pin(pvk, &asked.table, block);
+    characters(&offset(&natural, pin, asked.check))
 }
 
 // The PVV of the PIN.

@@ -25,20 +25,23 @@ pub(crate) fn fill_length(format: Format, pin: &Pin) -> usize
     }
 }
 
-// The block of the PIN in the format, its fill drawn from the place on.
-pub(crate) fn block_drawn(
-    module: &Module,
-    format: Format,
-    pin: &Pin,
-    account: &[u8; 12],
-    place: u64,
-) -> u64
-    requires account { IsTrue (list_all is_decimal account.now) }
-    requires place { place < 2 ^ 63 }
-    ensures { result ≡ block_drawn «module».now format pin.now account.now place }
+// What a block of a PIN is made for: its format, its account, and the place from which its fill is drawn.
+#[derive(Clone, Copy)]
+pub(crate) struct BlockAsked {
+    pub(crate) format: Format,
+    pub(crate) account: [u8; 12],
+    pub(crate) place: u64,
+}
+
+// The block of the PIN.
+pub(crate) fn block_drawn(module: &Module, asked: &BlockAsked, pin: &Pin) -> u64
+    requires account { IsTrue (list_all is_decimal asked.now.account) }
+    requires place { asked.now.place < 2 ^ 63 }
+    ensures { result ≡ block_drawn «module».now asked.now.format pin.now asked.now.account asked.now.place }
 {
-    let fill = draw_fill(module, format, place, fill_length(format, pin));
-    build(format, pin, account, &fill)
+    let format = asked.format;
+    let fill = draw_fill(module, format, asked.place, fill_length(format, pin));
+    build(format, pin, &asked.account, &fill)
 }
 
 // The PIN's digits, then F to twelve characters.

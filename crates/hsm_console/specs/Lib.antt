@@ -1,4 +1,1 @@
-pub mod Components
-pub mod Fields
-pub mod Commands
 pub mod Plans

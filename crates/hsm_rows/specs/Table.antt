@@ -1,4 +1,4 @@
--- The rows of the command table: what each command's message and reply are made of.
+-- The rows of the command table: what each command's message and reply are made of. A row that speaks of its fields names them first, by their places.
 use Rattle.std.specs.Prelude.{ℕ, Bool, List, [], ◌∷◌, ◌++◌, map, Option, codes, find}
 use Rattle.std.specs.List.{Contains}
 use Rattle.std.specs.Str.{bytes_eq}
@@ -61,44 +61,56 @@ rules_of row = rules_in row.rules
 -- A0: draw a key
 unfoldable pub row_A0 : RowShape
 row_A0 =
+    let kek : ℕ = 4 in
     make_row (codes "A0") (codes "A1") family.Key set.A0
     (field form.ZeroToOne 15 ∷ field form.KeyType 4 ∷ field form.Scheme 26 ∷ field form.Mode1Wrapper 15 ∷ field form.Mode1Key 15 ∷ field form.Mode1WrapScheme 26 ∷ [])
-    (term (public.Sealed secret.DrawnKey) ∷ term (public.SealedUnder secret.DrawnKey 4) ∷ term (public.CheckValue secret.DrawnKey) ∷ [])
+    (term (public.Sealed secret.DrawnKey) ∷ term (public.SealedUnder secret.DrawnKey kek) ∷ term (public.CheckValue secret.DrawnKey) ∷ [])
 
 -- A6: import a key
 unfoldable pub row_A6 : RowShape
 row_A6 =
+    let zmk : ℕ = 1 in
+    let wrapped : ℕ = 2 in
     make_row (codes "A6") (codes "A7") family.Key set.A6
     (field form.KeyType 4 ∷ field form.Key 15 ∷ field form.WrappedKey 15 ∷ field form.Scheme 26 ∷ [])
-    (term (public.Sealed (secret.OpenedUnder 2 1)) ∷ term (public.CheckValue (secret.OpenedUnder 2 1)) ∷ [])
+    (term (public.Sealed (secret.OpenedUnder wrapped zmk)) ∷ term (public.CheckValue (secret.OpenedUnder wrapped zmk)) ∷ [])
 
 -- A8: export a key
 unfoldable pub row_A8 : RowShape
 row_A8 =
+    let kek : ℕ = 2 in
+    let exported : ℕ = 3 in
     make_row (codes "A8") (codes "A9") family.Key set.A8
     (field form.KeyType 4 ∷ field form.Wrapper 15 ∷ field form.Key 15 ∷ field form.Key 15 ∷ field form.WrapScheme 26 ∷ [])
-    (term (public.SealedUnder (secret.Opened 3) 2) ∷ term (public.CheckValue (secret.Opened 3)) ∷ [])
+    (term (public.SealedUnder (secret.Opened exported) kek) ∷ term (public.CheckValue (secret.Opened exported)) ∷ [])
 
 -- BU: the check value of a key
 unfoldable pub row_BU : RowShape
 row_BU =
+    let pair_code : ℕ = 0 in
+    let flag : ℕ = 1 in
+    let checked : ℕ = 2 in
     make_row (codes "BU") (codes "BV") family.Key set.Bu
-    (field form.Type2 4 ∷ field form.Flag 5 ∷ field (form.KeyByFlag 1) 15 ∷ field (form.FfSemicolon 0) 15 ∷ field (form.FfType 0) 4 ∷ [])
-    (term (public.CheckValue (secret.Opened 2)) ∷ [])
+    (field form.Type2 4 ∷ field form.Flag 5 ∷ field (form.KeyByFlag flag) 15 ∷ field (form.FfSemicolon pair_code) 15 ∷ field (form.FfType pair_code) 4 ∷ [])
+    (term (public.CheckValue (secret.Opened checked)) ∷ [])
 
 -- CA: translate a PIN block from a TPK to a ZPK
 unfoldable pub row_CA : RowShape
 row_CA =
+    let zpk : ℕ = 1 in
+    let second_format : ℕ = 5 in
     make_row (codes "CA") (codes "CB") family.Pin set.Ca
     (field form.Key 15 ∷ field form.Key 15 ∷ field form.Length 15 ∷ field form.Hex16 15 ∷ field form.Format 23 ∷ field form.Format 23 ∷ field form.Digits12 15 ∷ [])
-    (term public.PinLength ∷ term (public.BlockUnder 5 1) ∷ term (public.Given 5) ∷ [])
+    (term public.PinLength ∷ term (public.BlockUnder second_format zpk) ∷ term (public.Given second_format) ∷ [])
 
 -- CC: translate a PIN block from a ZPK to a ZPK
 unfoldable pub row_CC : RowShape
 row_CC =
+    let zpk : ℕ = 1 in
+    let second_format : ℕ = 5 in
     make_row (codes "CC") (codes "CD") family.Pin set.Cc
     (field form.Key 15 ∷ field form.Key 15 ∷ field form.Length 15 ∷ field form.Hex16 15 ∷ field form.Format 23 ∷ field form.Format 23 ∷ field form.Digits12 15 ∷ [])
-    (term public.PinLength ∷ term (public.BlockUnder 5 1) ∷ term (public.Given 5) ∷ [])
+    (term public.PinLength ∷ term (public.BlockUnder second_format zpk) ∷ term (public.Given second_format) ∷ [])
 
 -- DE: make an offset
 unfoldable pub row_DE : RowShape
@@ -117,15 +129,17 @@ row_DG =
 -- DA: verify a terminal's PIN by an offset
 unfoldable pub row_DA : RowShape
 row_DA =
+    let check_length : ℕ = 5 in
     make_row (codes "DA") (codes "DB") family.Pin set.Da
-    (field form.Key 15 ∷ field form.Key 15 ∷ field form.Length 15 ∷ field form.Hex16 15 ∷ field form.Format 23 ∷ field form.Length 15 ∷ field form.Digits12 15 ∷ field form.Digits16 15 ∷ field form.Validation 15 ∷ field (form.Offset 5) 15 ∷ [])
+    (field form.Key 15 ∷ field form.Key 15 ∷ field form.Length 15 ∷ field form.Hex16 15 ∷ field form.Format 23 ∷ field form.Length 15 ∷ field form.Digits12 15 ∷ field form.Digits16 15 ∷ field form.Validation 15 ∷ field (form.Offset check_length) 15 ∷ [])
     []
 
 -- EA: verify another zone's PIN by an offset
 unfoldable pub row_EA : RowShape
 row_EA =
+    let check_length : ℕ = 5 in
     make_row (codes "EA") (codes "EB") family.Pin set.Ea
-    (field form.Key 15 ∷ field form.Key 15 ∷ field form.Length 15 ∷ field form.Hex16 15 ∷ field form.Format 23 ∷ field form.Length 15 ∷ field form.Digits12 15 ∷ field form.Digits16 15 ∷ field form.Validation 15 ∷ field (form.Offset 5) 15 ∷ [])
+    (field form.Key 15 ∷ field form.Key 15 ∷ field form.Length 15 ∷ field form.Hex16 15 ∷ field form.Format 23 ∷ field form.Length 15 ∷ field form.Digits12 15 ∷ field form.Digits16 15 ∷ field form.Validation 15 ∷ field (form.Offset check_length) 15 ∷ [])
     []
 
 -- DC: verify a terminal's PIN by a PVV
@@ -180,23 +194,27 @@ row_CY =
 -- M6: make a MAC
 unfoldable pub row_M6 : RowShape
 row_M6 =
+    let input : ℕ = 1 in
     make_row (codes "M6") (codes "M7") family.Data set.M6
-    (field form.ZeroToThree 15 ∷ field form.ZeroToTwo 15 ∷ field form.ZeroToOne 15 ∷ field form.OneOrThree 15 ∷ field form.ZeroToThree 15 ∷ field form.MacType 4 ∷ field form.Key 15 ∷ field form.Mode23Chain 15 ∷ field form.Count 15 ∷ field (form.DataByInput 1) 15 ∷ [])
+    (field form.ZeroToThree 15 ∷ field form.ZeroToTwo 15 ∷ field form.ZeroToOne 15 ∷ field form.OneOrThree 15 ∷ field form.ZeroToThree 15 ∷ field form.MacType 4 ∷ field form.Key 15 ∷ field form.Mode23Chain 15 ∷ field form.Count 15 ∷ field (form.DataByInput input) 15 ∷ [])
     (term public.Value ∷ term public.Chain ∷ [])
 
 -- M8: verify a MAC
 unfoldable pub row_M8 : RowShape
 row_M8 =
+    let input : ℕ = 1 in
+    let mac_size : ℕ = 2 in
     make_row (codes "M8") (codes "M9") family.Data set.M8
-    (field form.ZeroToThree 15 ∷ field form.ZeroToTwo 15 ∷ field form.ZeroToOne 15 ∷ field form.OneOrThree 15 ∷ field form.ZeroToThree 15 ∷ field form.MacType 4 ∷ field form.Key 15 ∷ field form.Mode23Chain 15 ∷ field form.Count 15 ∷ field (form.DataByInput 1) 15 ∷ field (form.Mode03Mac 2) 15 ∷ [])
+    (field form.ZeroToThree 15 ∷ field form.ZeroToTwo 15 ∷ field form.ZeroToOne 15 ∷ field form.OneOrThree 15 ∷ field form.ZeroToThree 15 ∷ field form.MacType 4 ∷ field form.Key 15 ∷ field form.Mode23Chain 15 ∷ field form.Count 15 ∷ field (form.DataByInput input) 15 ∷ field (form.Mode03Mac mac_size) 15 ∷ [])
     (term public.Chain ∷ [])
 
 -- B2: echo data
 unfoldable pub row_B2 : RowShape
 row_B2 =
+    let echoed : ℕ = 1 in
     make_row (codes "B2") (codes "B3") family.Data set.Plain
     (field form.Count 15 ∷ field form.Data 15 ∷ [])
-    (term (public.Given 1) ∷ [])
+    (term (public.Given echoed) ∷ [])
 
 -- NC: the LMK check
 unfoldable pub row_NC : RowShape
@@ -264,8 +282,9 @@ row_GC =
 -- FK: form a key from components
 unfoldable pub row_FK : RowShape
 row_FK =
+    let scheme : ℕ = 1 in
     make_row (codes "FK") [] family.Console set.Fk
-    (field form.KeyType 4 ∷ field form.Scheme 26 ∷ field (form.Component 1) 15 ∷ field (form.Component 1) 15 ∷ field (form.LastComponent 1) 15 ∷ [])
+    (field form.KeyType 4 ∷ field form.Scheme 26 ∷ field (form.Component scheme) 15 ∷ field (form.Component scheme) 15 ∷ field (form.LastComponent scheme) 15 ∷ [])
     (term (public.Sealed secret.Joined) ∷ term (public.CheckValue secret.Joined) ∷ [])
 
 -- the host rows

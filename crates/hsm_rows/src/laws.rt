@@ -4,11 +4,11 @@ ghost use Rattle.std.specs.List.{list_all};
 ghost use Rattle.hsm_rows.specs.declared.row.Form.{Form};
 ghost use Rattle.hsm_rows.specs.declared.row.Code.{Code};
 ghost use Rattle.hsm_rows.specs.Forms.{size};
-ghost use Rattle.hsm_rows.specs.Table.{RowShape, all_rows, row_A, row_FK};
+ghost use Rattle.hsm_rows.specs.Table.{RowShape, all_rows, row_A};
 ghost use Rattle.hsm_rows.specs.Bounds.{has_few_fields, has_few_needs};
 ghost use Rattle.hsm_rows.specs.Reading.{ReadText, reading, RowReads, RowRefuses, Stands, is_console};
 ghost use Rattle.hsm_rows.specs.Standing.{TextsStand, AreTexts, AreTextsOrAbsent, IsText, MayFollow};
-ghost use Rattle.hsm_rows.specs.ConsoleStanding.{AuthorisationStands, ComponentsStand};
+ghost use Rattle.hsm_rows.specs.ConsoleStanding.{AuthorisationStands};
 ghost use Rattle.hsm_rows.specs.Clear.{OnlyNgAndGcShow, MarksAreShown, NgNeeds, GcNeeds};
 
 /// Each text has by each row just one answer: one reading, or one code that refuses it.
@@ -37,10 +37,9 @@ pub fn forms_are()
     ensures one { (f : Form) (e : List (List ℕ)) (t u rest more : List ℕ) → t ++ rest ≡ u ++ more → IsText f e t → MayFollow f e t rest → IsText f e u → MayFollow f e u more → t ≡ u }
 {}
 
-/// What the texts of an authorisation and of a key's components are, where the row read them.
+/// What the texts of an authorisation are, where its row read them.
 pub fn console_texts_stand()
     ensures authorisation { (text : List ℕ) (r : ReadText) → reading row_A text ≡ Ok r → AuthorisationStands r }
-    ensures components { (text : List ℕ) (r : ReadText) → reading row_FK text ≡ Ok r → ComponentsStand r }
 {}
 
 /// No row but NG and GC has a reply field that shows a clear key or PIN; these two need an activity.

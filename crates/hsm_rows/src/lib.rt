@@ -20,7 +20,7 @@ pub use laws::{
     texts_stand,
 };
 pub use listing::explain;
-pub use read::{Fields, read_fields};
+pub use read::{Fields, is_console, read_fields};
 pub use row::{Code, Family, Field, Form, Public, Row, Secret};
 pub use rules::{
     ActUse, AskKind, DataCheck, FixedNeed, KeyCheck, LengthRule, MacFields, Made, PinSource,

@@ -65,7 +65,8 @@ fn is_trailer(console: bool, rest: &[u8]) -> bool
     rest.is_empty() || !console && rest.starts_with(&[0x19]) && rest.len() <= 33
 }
 
-pub(crate) fn is_console(row: &Row) -> bool
+/// Whether the row is the console's: it has no reply code.
+pub fn is_console(row: &Row) -> bool
     ensures { result ≡ is_console (shape_of row.now) }
 {
     row.reply.is_empty()

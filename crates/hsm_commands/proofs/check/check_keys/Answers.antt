@@ -1,7 +1,3 @@
-use Rattle.std.proofs.Common.{◌≡◌, sym, ◌∙◌, ℕ, subst}
-use Rattle.hsm_lmk.specs.Cache.{kept_all}
-use Rattle.hsm_lmk.specs.Caches.{kept_in}
-use Rattle.hsm_answers.specs.Kept.{check_entries}
 use Rattle.hsm_commands.proofs.KeptLaws.{two_kept}
 use Rattle.hsm_commands.proofs.check.check_keys.Goals as goal
 

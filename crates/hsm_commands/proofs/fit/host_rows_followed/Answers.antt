@@ -1,4 +1,4 @@
-use Rattle.hsm_commands.proofs.HostRows.{host_followed, host_family, host_quiet}
+use Rattle.hsm_commands.proofs.TableRows.{host_followed, host_family, host_quiet}
 use Rattle.hsm_commands.proofs.fit.host_rows_followed.Goals as goal
 
 pub returns-clause-followed : goal.returns-clause-followed

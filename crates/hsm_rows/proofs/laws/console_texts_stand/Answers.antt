@@ -1,5 +1,5 @@
-use Rattle.hsm_rows.proofs.ConsoleStands.{authorisation_stands, components_stand}
+use Rattle.hsm_rows.proofs.ConsoleStands.{authorisation_stands}
 use Rattle.hsm_rows.proofs.laws.console_texts_stand.Goals as goal
 
 pub returns : goal.returns
-returns c = record { authorisation = authorisation_stands; components = components_stand }
+returns c = record { authorisation = authorisation_stands }

@@ -1,0 +1,149 @@
+//! What the checks of a message come to before its entry.
+ghost use Rattle.std.specs.Prelude.{◌≡◌, ◌≤◌, true, None, Ok, is_some};
+ghost use Rattle.hsm_auth.specs.History.{CanAsk};
+ghost use Rattle.hsm_lmk.specs.Cache.{Agrees, kept_all};
+ghost use Rattle.hsm_lmk.specs.Caches.{capacity_of, kept_in};
+ghost use Rattle.hsm_answers.specs.declared.plans.Checked.TheVariants.{Passed};
+ghost use Rattle.hsm_answers.specs.Asks.{ask_read, asked_words, empty_ask, row_ask};
+ghost use Rattle.hsm_answers.specs.Checks.{check_before, check_after};
+ghost use Rattle.hsm_answers.specs.Kept.{checks_entries};
+ghost use Rattle.hsm_commands.specs.Demands.{word_demands};
+ghost use Rattle.hsm_commands.specs.Opened.{KeysHold};
+ghost use Rattle.hsm_commands.specs.Plans.{AreChecked, AskStands, IsHeld, RowStands};
+ghost use Rattle.hsm_commands.specs.Request.{Leaves, Meets, module_of, row_rules, texts_of};
+
+use crate::check::check_before;
+use crate::keys::OpenedKeys;
+use crate::late::check_after;
+use crate::needs::{needs_of, word_count};
+use crate::request::Request;
+use crate::terms::HeldParts;
+use crate::value::Written;
+use crate::words::{authorised, cancelled};
+use hsm_answers::{Checked, empty_ask};
+use hsm_auth::Ask;
+use hsm_lmk::KeyCache;
+use hsm_rows::AskKind;
+
+// What the checks came to: what is asked, and what is held where none fails.
+#[derive(Clone, Copy)]
+pub(crate) struct Found {
+    pub(crate) ask: Ask,
+    pub(crate) checked: Checked,
+    pub(crate) held: HeldParts,
+}
+
+// Nothing is held.
+fn nothing() -> HeldParts {
+    HeldParts {
+        keys: OpenedKeys {
+            first: None,
+            second: None,
+        },
+        pin: None,
+        value: Written::Nothing,
+        chain: Written::Nothing,
+    }
+}
+
+// A message that is refused before its entry.
+pub(crate) fn refused(checked: Checked) -> Found
+    ensures ask { result.ask ≡ empty_ask }
+    ensures checked { result.checked ≡ checked }
+{
+    Found {
+        ask: empty_ask(),
+        checked,
+        held: nothing(),
+    }
+}
+
+// The row's ask, of so many words.
+#[tactic(auto, unfolding(hsm_answers::specs::Asks::row_ask, hsm_answers::specs::Checks::needs_of))]
+fn ask_with(request: &Request<'_, '_>, words: u16) -> Ask
+    requires stands { AskStands (texts_of request.now) (row_rules request.now).ask }
+    requires words { words ≡ asked_words (module_of request.now) (row_rules request.now) (texts_of request.now) }
+    requires few { words ≤ 12 }
+    ensures ask { result ≡ row_ask (module_of request.now) (row_rules request.now) (texts_of request.now) (row_rules request.now).ask }
+    ensures may { CanAsk result }
+{
+    let rules = request.rules;
+    match rules.ask {
+        AskKind::UseAsk => Ask::Use {
+            needs: needs_of(request, rules.acts, rules.needs),
+            words,
+        },
+        AskKind::LookAsk => Ask::Look,
+        AskKind::RecentAsk => Ask::Recent,
+        AskKind::CancelAllAsk => Ask::CancelAll,
+        AskKind::AuthoriseAsk => authorised(request),
+        AskKind::CancelAsk => cancelled(request),
+    }
+}
+
+// The ask of a message of which no check after the entry fails.
+#[tactic(auto, unfolding(hsm_answers::specs::Asks::asked_words))]
+fn ask_of(request: &Request<'_, '_>, held: &HeldParts) -> Ask
+    requires stands { AskStands (texts_of request.now) (row_rules request.now).ask }
+    requires words { Meets request.now held.now.keys (word_demands (row_rules request.now) (row_rules request.now).words) }
+    requires left { Leaves request.now held.now.pin }
+    requires good { check_after (module_of request.now) (row_rules request.now) (texts_of request.now) ≡ None }
+    ensures ask { result ≡ row_ask (module_of request.now) (row_rules request.now) (texts_of request.now) (row_rules request.now).ask }
+    ensures may { CanAsk result }
+{
+    ask_with(request, word_count(request, held))
+}
+
+// The same where one fails: it draws no words.
+#[tactic(auto, unfolding(hsm_answers::specs::Asks::asked_words))]
+fn late_ask(request: &Request<'_, '_>) -> Ask
+    requires stands { AskStands (texts_of request.now) (row_rules request.now).ask }
+    requires bad { is_some (check_after (module_of request.now) (row_rules request.now) (texts_of request.now)) ≡ true }
+    ensures ask { result ≡ row_ask (module_of request.now) (row_rules request.now) (texts_of request.now) (row_rules request.now).ask }
+    ensures may { CanAsk result }
+{
+    ask_with(request, 0)
+}
+
+// What the checks of a message whose keys hold come to.
+fn found_after(request: &Request<'_, '_>, keys: &OpenedKeys) -> Found
+    requires stands { RowStands (module_of request.now) (row_rules request.now) (texts_of request.now) }
+    requires keys { KeysHold (module_of request.now) (row_rules request.now) (texts_of request.now) (row_rules request.now).keys keys.now }
+    requires good { check_before (module_of request.now) (row_rules request.now) (texts_of request.now) ≡ None }
+    ensures ask { result.ask ≡ row_ask (module_of request.now) (row_rules request.now) (texts_of request.now) (row_rules request.now).ask }
+    ensures may { CanAsk result.ask }
+    ensures checks { AreChecked (module_of request.now) (row_rules request.now) (texts_of request.now) result.checked }
+    ensures held { result.checked ≡ Passed None → IsHeld (module_of request.now) (row_rules request.now) (texts_of request.now) result.held }
+{
+    match check_after(request, keys) {
+        Err(code) => Found {
+            ask: late_ask(request),
+            checked: Checked::Passed(Some(code)),
+            held: nothing(),
+        },
+        Ok(held) => Found {
+            ask: ask_of(request, &held),
+            checked: Checked::Passed(None),
+            held,
+        },
+    }
+}
+
+// What the checks of a message come to.
+#[tactic(auto, unfolding(hsm_answers::specs::Asks::ask_read))]
+pub(crate) fn check_message(request: &Request<'_, '_>, cache: &mut KeyCache) -> Found
+    requires agrees { Agrees (module_of request.now).lmk (kept_in cache.old).entries }
+    requires stands { RowStands (module_of request.now) (row_rules request.now) (texts_of request.now) }
+    ensures ask { result.ask ≡ ask_read (module_of request.now) (row_rules request.now) (Ok (texts_of request.now)) }
+    ensures may { CanAsk result.ask }
+    ensures checks { AreChecked (module_of request.now) (row_rules request.now) (texts_of request.now) result.checked }
+    ensures held { result.checked ≡ Passed None → IsHeld (module_of request.now) (row_rules request.now) (texts_of request.now) result.held }
+    ensures agrees { Agrees (module_of request.now).lmk (kept_in cache.new).entries }
+    ensures capacity { capacity_of cache.new ≡ capacity_of cache.old }
+    ensures kept { kept_in cache.new ≡ kept_all (capacity_of cache.old) (kept_in cache.old) (checks_entries (module_of request.now) (row_rules request.now) (texts_of request.now) (row_rules request.now).keys) }
+{
+    match check_before(request, cache) {
+        Err(code) => refused(Checked::Failed(code)),
+        Ok(keys) => found_after(request, &keys),
+    }
+}
