@@ -150,10 +150,10 @@ impl State {
         if let Ask::Use { needs, words } = ask {
             let drawn = self.draw(needs, *words);
             self.note(Kind::Use, drawn.is_some());
-            return match drawn {
-                Some(first) => Granted::Use { first },
-                None => Granted::Refused,
-            };
+            match drawn {
+                Some(first) => return Granted::Use { first },
+                None => return Granted::Refused,
+            }
         }
         let granted = self.answer(ask);
         self.note(ask.kind(), granted.is_good());
@@ -180,7 +180,8 @@ impl State {
         self.number = (self.number + 1) % MODULUS;
     }
 
-    // Answers an ask that isn't `Use`.
+    // Answers an ask that isn't `Use`. In `step` it would make room for all its answers at each ask.
+    #[inline(never)]
     fn answer(&mut self, ask: &Ask) -> Granted
         requires { is_use_ask ask.now ≡ false }
         ensures { Answers ask.now result self.old self.new }
