@@ -4,7 +4,7 @@ ghost use Rattle.hsm_desk.specs.Passes.{step};
 
 use crate::{BOOKINGS, FOUR, Load, MANY, WORK, drawing_ask, other_work, still_clock};
 use hsm_auth::Ledger;
-use hsm_desk::{Desk, Pass};
+use hsm_desk::{Booked, Desk, Pass};
 use hsm_io::MemClock;
 use std::alloc::{AllocError, Global};
 use std::sync::Wait;
@@ -34,9 +34,10 @@ fn book<R: Wait>(rt: &R, desk: &Desk, lane: &mut Lane, times: u32, work: u32)
     ensures { lane.new.pass.desk ≡ desk.now }
 {
     let ask = drawing_ask();
+    let mut booked = Booked::nothing();
     for _ in 0..times {
         lane.sum = other_work(lane.sum, work);
-        desk.book(rt, &mut lane.pass, &mut lane.clock, &ask);
+        desk.book_into(rt, &mut lane.pass, &mut lane.clock, &ask, &mut booked);
     }
 }
 

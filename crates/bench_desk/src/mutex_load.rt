@@ -2,7 +2,7 @@
 ghost use Rattle.std.specs.Prelude.{◌<◌};
 
 use crate::{BOOKINGS, FOUR, Load, MANY, WORK, drawing_ask, other_work, still_clock};
-use hsm_auth::Ledger;
+use hsm_auth::{Granted, Ledger};
 use hsm_io::{Clock as _, MemClock};
 use std::alloc::Global;
 use std::sync::{Mutex, Wait};
@@ -25,11 +25,12 @@ fn new_lane() -> Lane {
 
 fn enter<R: Wait>(rt: &R, ledger: &Mutex<Ledger>, lane: &mut Lane, times: u32, work: u32) {
     let ask = drawing_ask();
+    let mut granted = Granted::Refused;
     for _ in 0..times {
         lane.sum = other_work(lane.sum, work);
         let mut held = ledger.lock(rt);
         let moment = lane.clock.now();
-        held.step(moment, &ask);
+        held.step_into(moment, &ask, &mut granted);
     }
 }
 

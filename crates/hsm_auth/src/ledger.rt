@@ -56,6 +56,19 @@ impl Ledger {
         ensures stands { (h : List Entry) (pass : ℕ) → StandsFor self.old h → StandsFor self.new (h ++ entry pass moment ask.now result ∷ []) }
         ensures legal { (h : List Entry) (pass : ℕ) → StandsFor self.old h → IsLegal h → IsLegal (h ++ entry pass moment ask.now result ∷ []) }
     {
-        self.state.step(moment, ask)
+        let mut granted = Granted::Refused;
+        self.step_into(moment, ask, &mut granted);
+        granted
+    }
+
+    /// The same, with the answer put in the place of `granted`: an answer has 544 bytes, which are then moved nowhere.
+    pub fn step_into(&mut self, moment: u64, ask: &Ask, granted: &mut Granted)
+        requires moment { moment ≤ 2 ^ 40 }
+        requires ask { CanAsk ask.now }
+        ensures answer { (h : List Entry) → StandsFor self.old h → granted.new ≡ outcome h moment ask.now }
+        ensures stands { (h : List Entry) (pass : ℕ) → StandsFor self.old h → StandsFor self.new (h ++ entry pass moment ask.now granted.new ∷ []) }
+        ensures legal { (h : List Entry) (pass : ℕ) → StandsFor self.old h → IsLegal h → IsLegal (h ++ entry pass moment ask.now granted.new ∷ []) }
+    {
+        self.state.step(moment, ask, granted);
     }
 }

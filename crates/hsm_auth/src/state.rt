@@ -6,11 +6,12 @@ use crate::entry::{Grant, MAX_GRANTS, Note};
 use arrayvec::ArrayVec;
 use circular_buffer::HeapCircularBuffer;
 
-/// The parts of a ledger, which change one after another in a step.
+/// The parts of a ledger, which change one after another in a step. What each step changes lies together, behind the grants,
+/// so that a thread takes over little from the one that made the entry before.
 #[derive(Drop)]
 pub(crate) struct State {
-    pub(crate) moment: u64,
     pub(crate) grants: ArrayVec<Grant, MAX_GRANTS>,
+    pub(crate) moment: u64,
     pub(crate) place: u64,
     pub(crate) number: u64,
     pub(crate) notes: HeapCircularBuffer<Note>,

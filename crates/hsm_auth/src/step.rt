@@ -137,27 +137,27 @@ impl State {
         })
     }
 
-    /// Makes one entry.
-    pub(crate) fn step(&mut self, moment: u64, ask: &Ask) -> Granted
+    /// Makes one entry, and puts its answer in the place of `granted`.
+    pub(crate) fn step(&mut self, moment: u64, ask: &Ask, granted: &mut Granted)
         requires moment { moment ≤ 2 ^ 40 }
         requires ask { CanAsk ask.now }
-        ensures answer { (h : List Entry) → StandsFor (view_of self.old) h → result ≡ outcome h moment ask.now }
-        ensures stands { (h : List Entry) (pass : ℕ) → StandsFor (view_of self.old) h → StandsFor (view_of self.new) (h ++ entry pass moment ask.now result ∷ []) }
-        ensures legal { (h : List Entry) (pass : ℕ) → StandsFor (view_of self.old) h → IsLegal h → IsLegal (h ++ entry pass moment ask.now result ∷ []) }
+        ensures answer { (h : List Entry) → StandsFor (view_of self.old) h → granted.new ≡ outcome h moment ask.now }
+        ensures stands { (h : List Entry) (pass : ℕ) → StandsFor (view_of self.old) h → StandsFor (view_of self.new) (h ++ entry pass moment ask.now granted.new ∷ []) }
+        ensures legal { (h : List Entry) (pass : ℕ) → StandsFor (view_of self.old) h → IsLegal h → IsLegal (h ++ entry pass moment ask.now granted.new ∷ []) }
     {
         self.come_to(moment);
-        // most asks are these: the answer, which is large, is written once, in its place
+        // most asks are these: the answer, which is large, is made in its place
         if let Ask::Use { needs, words } = ask {
             let drawn = self.draw(needs, *words);
             self.note(Kind::Use, drawn.is_some());
             match drawn {
-                Some(first) => return Granted::Use { first },
-                None => return Granted::Refused,
+                Some(first) => *granted = Granted::Use { first },
+                None => *granted = Granted::Refused,
             }
+            return;
         }
-        let granted = self.answer(ask);
+        self.answer(ask, granted);
         self.note(ask.kind(), granted.is_good());
-        granted
     }
 
     fn come_to(&mut self, moment: u64)
@@ -182,18 +182,18 @@ impl State {
 
     // Answers an ask that isn't `Use`. In `step` it would make room for all its answers at each ask.
     #[inline(never)]
-    fn answer(&mut self, ask: &Ask) -> Granted
+    fn answer(&mut self, ask: &Ask, granted: &mut Granted)
         requires { is_use_ask ask.now ≡ false }
-        ensures { Answers ask.now result self.old self.new }
+        ensures { Answers ask.now granted.new self.old self.new }
     {
-        match ask {
+        *granted = match ask {
             Ask::Use { .. } => unreachable!(),
             Ask::Authorise { activity, minutes } => self.authorise(activity, *minutes),
             Ask::Cancel { activity } => self.cancel(activity),
             Ask::CancelAll => self.cancel_all(),
             Ask::Look => self.look(),
             Ask::Recent => self.recent(),
-        }
+        };
     }
 
     // The place at which the words begin, or none where a need isn't met.

@@ -4,6 +4,7 @@
 //! and passes the turn on. A lock round all of this lets the threads that wait sleep.
 ghost use Rattle.std.specs.Prelude.{◌≡◌, ℕ, ◌^◌, ◌<◌, ◌≤◌, List, [], ◌∷◌, ◌++◌, length, IfOk};
 ghost use Rattle.hsm_auth.specs.declared.entry.Entry.{Entry};
+ghost use Rattle.hsm_auth.specs.declared.entry.Granted.TheVariants.{Refused};
 ghost use Rattle.hsm_auth.specs.History.{entry, outcome, CanAsk, StandsFor, IsLegal};
 ghost use Rattle.hsm_io.specs.Moments.{tick, after_now};
 ghost use Rattle.hsm_desk.specs.declared.view.Stage.TheVariants.{Idle, Waiting, Turn};
@@ -18,9 +19,10 @@ use atomic_table::{Seat, Table};
 use hsm_auth::{Ask, Granted, Ledger};
 use hsm_io::Clock;
 use std::alloc::{AllocError, Global};
+use std::hint::spin_loop;
 use std::marker::Model;
 use std::snapshot::Snapshot;
-use std::sync::{Mutex, Wait};
+use std::sync::{Mutex, MutexGuard, Wait};
 use std::thread;
 
 // The word that counts the entries that were made, and is the ticket whose turn it is.
@@ -28,6 +30,9 @@ const SERVED: usize = 0;
 
 // The word that counts the tickets that were drawn.
 const TICKETS: usize = 1;
+
+// How often a booking looks whether the lock of the queue is free, before it sleeps until it is.
+const LOOKS: u32 = 100;
 
 // A call that draws this ticket or a later one does not return.
 const NEVER_SERVED: u64 = 1 << 62;
@@ -86,21 +91,32 @@ pub struct Booked {
     pub granted: Granted,
 }
 
+impl Booked {
+    /// What is kept before anything was booked: place 0, and a refusal. [`Desk::book_into`] takes its place.
+    pub fn nothing() -> Booked
+        ensures { result ≡ record { place = 0; granted = Refused } }
+    {
+        Booked {
+            place: 0,
+            granted: Granted::Refused,
+        }
+    }
+}
+
 impl InSlot {
-    // Steps the ledger, and keeps of what the entry is made.
-    fn step(&mut self, moment: u64, ask: &Ask) -> Granted
+    // Steps the ledger, and keeps of what the entry is made. The answer is put in the place of `granted`.
+    fn step(&mut self, moment: u64, ask: &Ask, granted: &mut Granted)
         requires moment { moment ≤ 2 ^ 40 }
         requires ask { CanAsk ask.now }
-        ensures kept { (self.new.moment ≡ moment) × (self.new.ask.value ≡ ask.now) × (self.new.granted.value ≡ result) }
-        ensures answer { (h : List Entry) → StandsFor self.old.ledger.value h → result ≡ outcome h moment ask.now }
-        ensures stands { (h : List Entry) (pass : ℕ) → StandsFor self.old.ledger.value h → StandsFor self.new.ledger.value (h ++ entry pass moment ask.now result ∷ []) }
-        ensures legal { (h : List Entry) (pass : ℕ) → StandsFor self.old.ledger.value h → IsLegal h → IsLegal (h ++ entry pass moment ask.now result ∷ []) }
+        ensures kept { (self.new.moment ≡ moment) × (self.new.ask.value ≡ ask.now) × (self.new.granted.value ≡ granted.new) }
+        ensures answer { (h : List Entry) → StandsFor self.old.ledger.value h → granted.new ≡ outcome h moment ask.now }
+        ensures stands { (h : List Entry) (pass : ℕ) → StandsFor self.old.ledger.value h → StandsFor self.new.ledger.value (h ++ entry pass moment ask.now granted.new ∷ []) }
+        ensures legal { (h : List Entry) (pass : ℕ) → StandsFor self.old.ledger.value h → IsLegal h → IsLegal (h ++ entry pass moment ask.now granted.new ∷ []) }
     {
-        let granted = self.ledger.step(moment, ask);
+        self.ledger.step_into(moment, ask, granted);
         self.moment = moment;
         self.ask = Snapshot::of(ask);
-        self.granted = Snapshot::of(&granted);
-        granted
+        self.granted = Snapshot::of(granted);
     }
 }
 
@@ -236,6 +252,18 @@ impl Desk {
         self.board.shared.fetch_add::<Enter>(seat, SERVED, 1)
     }
 
+    // Takes the lock of the queue. A thread holds it for less than a microsecond, if the system does not stop it meanwhile:
+    // looking again for some microseconds costs less than sleeping and being woken.
+    fn queue_up<R: Wait>(&self, rt: &R) -> MutexGuard<'_, ()> {
+        for _ in 0..LOOKS {
+            if let Some(queued) = self.queue.try_lock() {
+                return queued;
+            }
+            spin_loop();
+        }
+        self.queue.lock(rt)
+    }
+
     /// Makes one entry. It waits for its turn, asks the clock once while it has it, and takes no memory.
     /// It has no refusal of its own.
     pub fn book<C: Clock, R: Wait>(
@@ -252,14 +280,34 @@ impl Desk {
         ensures sound { Sound pass.new }
         ensures moment { (c : List ℕ) → C.to_come clock.old ≡ Some c → (C.last clock.new ≡ tick c 0) × (C.to_come clock.new ≡ Some (after_now c)) }
     {
-        let queued = self.queue.lock(rt);
+        let mut booked = Booked::nothing();
+        self.book_into(rt, pass, clock, ask, &mut booked);
+        booked
+    }
+
+    /// The same, with what it answers put in the place of `booked`: an answer has 544 bytes, which are then moved nowhere.
+    pub fn book_into<C: Clock, R: Wait>(
+        &self,
+        rt: &R,
+        pass: &mut Pass,
+        clock: &mut C,
+        ask: &Ask,
+        booked: &mut Booked,
+    )
+        requires desk { pass.old.desk ≡ self.now }
+        requires ask { CanAsk ask.now }
+        ensures entry { Books pass.old pass.new (C.last clock.new) ask.now booked.new.granted booked.new.place }
+        ensures own { OwnBooked pass.old pass.new (C.last clock.new) ask.now booked.new.granted booked.new.place }
+        ensures sound { Sound pass.new }
+        ensures moment { (c : List ℕ) → C.to_come clock.old ≡ Some c → (C.last clock.new ≡ tick c 0) × (C.to_come clock.new ≡ Some (after_now c)) }
+    {
+        let queued = self.queue_up(rt);
         let ticket = self.draw(rt, &mut pass.seat);
         let mut held = self.take(rt, &mut pass.seat, ticket);
         let moment = clock.now();
-        let granted = held.step(moment, ask);
-        let place = self.enter(&mut pass.seat, held, ticket);
+        held.step(moment, ask, &mut booked.granted);
+        booked.place = self.enter(&mut pass.seat, held, ticket);
         drop(queued);
-        Booked { place, granted }
     }
 
     /// Ends the desk. The answer is the number of all entries: at least as many as the pass has seen,

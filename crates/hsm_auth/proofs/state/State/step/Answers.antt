@@ -29,12 +29,12 @@ returns-in-None-clause-legal c h pass stands legal =
     legal-push h (entry pass c.args.moment c.args.ask.now Refused) legal record { answers = answer; moment = c.requires.moment; ask = c.requires.ask }
 
 pub returns-clause-answer : goal.returns-clause-answer
-returns-clause-answer c h stands = (steps c.args.self.now c.come_to.new.self c.answer-granted.new.self c.note-2.new.self h 0 c.args.moment c.args.ask.now c.answer-granted.result stands c.come_to.ensures c.answer-granted.ensures (noted_as c.kind.ensures c.is_good.ensures c.note-2.ensures)).0
+returns-clause-answer c h stands = (steps c.args.self.now c.come_to.new.self c.answer.new.self c.note-2.new.self h 0 c.args.moment c.args.ask.now c.answer.new.granted stands c.come_to.ensures c.answer.ensures (noted_as c.kind.ensures c.is_good.ensures c.note-2.ensures)).0
 
 pub returns-clause-stands : goal.returns-clause-stands
-returns-clause-stands c h pass stands = (steps c.args.self.now c.come_to.new.self c.answer-granted.new.self c.note-2.new.self h pass c.args.moment c.args.ask.now c.answer-granted.result stands c.come_to.ensures c.answer-granted.ensures (noted_as c.kind.ensures c.is_good.ensures c.note-2.ensures)).1
+returns-clause-stands c h pass stands = (steps c.args.self.now c.come_to.new.self c.answer.new.self c.note-2.new.self h pass c.args.moment c.args.ask.now c.answer.new.granted stands c.come_to.ensures c.answer.ensures (noted_as c.kind.ensures c.is_good.ensures c.note-2.ensures)).1
 
 pub returns-clause-legal : goal.returns-clause-legal
 returns-clause-legal c h pass stands legal =
-    let answer = (steps c.args.self.now c.come_to.new.self c.answer-granted.new.self c.note-2.new.self h pass c.args.moment c.args.ask.now c.answer-granted.result stands c.come_to.ensures c.answer-granted.ensures (noted_as c.kind.ensures c.is_good.ensures c.note-2.ensures)).0 in
-    legal-push h (entry pass c.args.moment c.args.ask.now c.answer-granted.result) legal record { answers = answer; moment = c.requires.moment; ask = c.requires.ask }
+    let answer = (steps c.args.self.now c.come_to.new.self c.answer.new.self c.note-2.new.self h pass c.args.moment c.args.ask.now c.answer.new.granted stands c.come_to.ensures c.answer.ensures (noted_as c.kind.ensures c.is_good.ensures c.note-2.ensures)).0 in
+    legal-push h (entry pass c.args.moment c.args.ask.now c.answer.new.granted) legal record { answers = answer; moment = c.requires.moment; ask = c.requires.ask }

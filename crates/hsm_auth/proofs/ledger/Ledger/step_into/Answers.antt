@@ -1,4 +1,4 @@
-use Rattle.hsm_auth.proofs.ledger.Ledger.step.Goals as goal
+use Rattle.hsm_auth.proofs.ledger.Ledger.step_into.Goals as goal
 
 pub invariant_of-self : goal.invariant_of-self
 invariant_of-self c = let known = c.self.invariant in (_, c.step.ensures.stands known.0 0 known.1)
