@@ -74,13 +74,17 @@ pub fn bytes_in(digits: &[u8]) -> ArrayVec<u8, 24>
     ensures low { 2 * length result.items ≤ length digits.now }
     ensures high { length digits.now ≤ 2 * length result.items + 1 }
 {
-    let mut bytes = ArrayVec::new();
+    let mut bytes = [0; 24];
+    let mut count = 0;
     let mut rest = digits;
     while let [a, b, more @ ..] = rest {
-        bytes.push(digit_value(*a) * 16 + digit_value(*b));
+        bytes[count] = digit_value(*a) * 16 + digit_value(*b);
+        count += 1;
         rest = more;
     }
-    bytes
+    let mut named = ArrayVec::new();
+    let _ = named.try_extend_from_slice(&bytes[..count]);
+    named
 }
 
 // What a key text says. None for a text that is no key text.
