@@ -11,7 +11,7 @@ use Rattle.hsm_answers.specs.Keys.{key_fault}
 use Rattle.hsm_answers.specs.Kept.{check_entries, checks_entries}
 
 -- entries that are kept one list after another
-kept_joined : (n : ℕ) (k : Kept) (es fs : List KeyEntry) → kept_all n k (es ++ fs) ≡ kept_all n (kept_all n k es) fs
+pub kept_joined : (n : ℕ) (k : Kept) (es fs : List KeyEntry) → kept_all n k (es ++ fs) ≡ kept_all n (kept_all n k es) fs
 kept_joined n k [] fs = refl
 kept_joined n k (e ∷ es) fs = kept_joined n (kept_one n k e) es fs
 

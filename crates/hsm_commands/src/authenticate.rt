@@ -163,7 +163,9 @@ fn mac_digits(size: &[u8], digits: &[u8; 16]) -> Written
     }
 }
 
-// The MAC where the data ends its message, else the chaining value after it, as they are written.
+// The MAC where the data ends its message, else the chaining value after it, as they are written. It is not inlined: only
+// the messages that have one should make its room.
+#[inline(never)]
 #[tactic(auto, unfolding(hsm_answers::specs::Values::row_value, hsm_answers::specs::Values::chain_value))]
 pub(crate) fn mac_texts(request: &Request<'_, '_>, keys: &OpenedKeys, f: &MacFields) -> Texts
     requires stands { Meets request.now keys.now (value_demands (row_rules request.now) (MacOf f.now)) }

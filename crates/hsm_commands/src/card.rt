@@ -24,7 +24,8 @@ fn account_digits(account: &[u8]) -> ArrayVec<u8, 19>
     values
 }
 
-// The CVV of a card as it is written.
+// The CVV of a card as it is written. It is not inlined: only the messages that have one should make its room.
+#[inline(never)]
 pub(crate) fn cvv_text(pair: &KeyPair, account: &[u8], expiry: &[u8], service: &[u8]) -> [u8; 3]
     requires first { length pair.now.first ≡ 1 }
     requires second { length pair.now.second ≡ 1 }

@@ -184,37 +184,37 @@ fn check_key(
     }
 }
 
-// The keys of a row's checks, or the code of the first of them with a fault.
+// Puts the keys of a row's checks in the place of `keys`, or answers the code of the first of them with a fault.
 #[tactic(auto, unfolding(hsm_answers::specs::Keys::keys_fault))]
 pub(crate) fn check_keys(
     request: &Request<'_, '_>,
     cache: &mut KeyCache,
     checks: &[KeyCheck],
-) -> Result<OpenedKeys, Code>
+    keys: &mut OpenedKeys,
+) -> Result<(), Code>
     requires agrees { Agrees (module_of request.now).lmk (kept_in cache.old).entries }
     requires stand { KeysStand (module_of request.now) (row_rules request.now) (texts_of request.now) checks.now }
     ensures fault { code_in result ≡ keys_fault (module_of request.now) (row_rules request.now) (texts_of request.now) checks.now }
-    ensures keys { IfOk result (λ keys. KeysHold (module_of request.now) (row_rules request.now) (texts_of request.now) checks.now keys) }
+    ensures keys { IfOk result (λ _. KeysHold (module_of request.now) (row_rules request.now) (texts_of request.now) checks.now keys.new) }
     ensures agrees { Agrees (module_of request.now).lmk (kept_in cache.new).entries }
     ensures capacity { capacity_of cache.new ≡ capacity_of cache.old }
     ensures kept { kept_in cache.new ≡ kept_all (capacity_of cache.old) (kept_in cache.old) (checks_entries (module_of request.now) (row_rules request.now) (texts_of request.now) checks.now) }
 {
     match checks {
-        [] => Ok(OpenedKeys {
-            first: None,
-            second: None,
-        }),
+        [] => {
+            keys.first = None;
+            keys.second = None;
+            Ok(())
+        }
         [a] => {
-            let first = check_key(request, cache, &None, *a)?;
-            Ok(OpenedKeys {
-                first,
-                second: None,
-            })
+            keys.first = check_key(request, cache, &None, *a)?;
+            keys.second = None;
+            Ok(())
         }
         [a, b] => {
-            let first = check_key(request, cache, &None, *a)?;
-            let second = check_key(request, cache, &first, *b)?;
-            Ok(OpenedKeys { first, second })
+            keys.first = check_key(request, cache, &None, *a)?;
+            keys.second = check_key(request, cache, &keys.first, *b)?;
+            Ok(())
         }
         // a row that is followed has at most two keys
         _ => unreachable!(),
@@ -259,29 +259,30 @@ fn parts_code(request: &Request<'_, '_>, keys: &OpenedKeys) -> Option<Code>
     }
 }
 
-// The keys of a message, or the code of the first check before its entry that fails.
+// Puts the keys of a message in the place of `keys`, or answers the code of the first check before its entry that fails.
 #[tactic(auto, unfolding(hsm_answers::specs::Checks::check_before, hsm_answers::specs::Checks::permit_fault))]
 pub(crate) fn check_before(
     request: &Request<'_, '_>,
     cache: &mut KeyCache,
-) -> Result<OpenedKeys, Code>
+    keys: &mut OpenedKeys,
+) -> Result<(), Code>
     requires agrees { Agrees (module_of request.now).lmk (kept_in cache.old).entries }
     requires keys { KeysStand (module_of request.now) (row_rules request.now) (texts_of request.now) (row_rules request.now).keys }
     requires parts { (keys : OpenedKeys) → KeysHold (module_of request.now) (row_rules request.now) (texts_of request.now) (row_rules request.now).keys keys
         → Meets request.now keys (parts_demands (row_rules request.now) (row_rules request.now).parts_differ) }
     ensures fault { code_in result ≡ check_before (module_of request.now) (row_rules request.now) (texts_of request.now) }
-    ensures keys { IfOk result (λ keys. KeysHold (module_of request.now) (row_rules request.now) (texts_of request.now) (row_rules request.now).keys keys) }
+    ensures keys { IfOk result (λ _. KeysHold (module_of request.now) (row_rules request.now) (texts_of request.now) (row_rules request.now).keys keys.new) }
     ensures agrees { Agrees (module_of request.now).lmk (kept_in cache.new).entries }
     ensures capacity { capacity_of cache.new ≡ capacity_of cache.old }
     ensures kept { kept_in cache.new ≡ kept_all (capacity_of cache.old) (kept_in cache.old) (checks_entries (module_of request.now) (row_rules request.now) (texts_of request.now) (row_rules request.now).keys) }
 {
     let rules = request.rules;
-    let keys = check_keys(request, cache, rules.keys)?;
+    check_keys(request, cache, rules.keys, keys)?;
     if let Some(code) = permit_code(request, rules.acts) {
         return Err(code);
     }
-    match parts_code(request, &keys) {
+    match parts_code(request, keys) {
         Some(code) => Err(code),
-        None => Ok(keys),
+        None => Ok(()),
     }
 }

@@ -105,45 +105,47 @@ fn late_ask(request: &Request<'_, '_>) -> Ask
     ask_with(request, 0)
 }
 
-// What the checks of a message whose keys hold come to.
-fn found_after(request: &Request<'_, '_>, keys: &OpenedKeys) -> Found
+// Finds what the checks of a message come to whose keys hold, and are there.
+fn find_after(request: &Request<'_, '_>, found: &mut Found)
     requires stands { RowStands (module_of request.now) (row_rules request.now) (texts_of request.now) }
-    requires keys { KeysHold (module_of request.now) (row_rules request.now) (texts_of request.now) (row_rules request.now).keys keys.now }
+    requires keys { KeysHold (module_of request.now) (row_rules request.now) (texts_of request.now) (row_rules request.now).keys found.old.held.keys }
     requires good { check_before (module_of request.now) (row_rules request.now) (texts_of request.now) ≡ None }
-    ensures ask { result.ask ≡ row_ask (module_of request.now) (row_rules request.now) (texts_of request.now) (row_rules request.now).ask }
-    ensures may { CanAsk result.ask }
-    ensures checks { AreChecked (module_of request.now) (row_rules request.now) (texts_of request.now) result.checked }
-    ensures held { result.checked ≡ Passed None → IsHeld (module_of request.now) (row_rules request.now) (texts_of request.now) result.held }
+    ensures ask { found.new.ask ≡ row_ask (module_of request.now) (row_rules request.now) (texts_of request.now) (row_rules request.now).ask }
+    ensures may { CanAsk found.new.ask }
+    ensures checks { AreChecked (module_of request.now) (row_rules request.now) (texts_of request.now) found.new.checked }
+    ensures held { found.new.checked ≡ Passed None → IsHeld (module_of request.now) (row_rules request.now) (texts_of request.now) found.new.held }
 {
-    match check_after(request, keys) {
-        Err(code) => Found {
-            ask: late_ask(request),
-            checked: Checked::Passed(Some(code)),
-            held: nothing(),
-        },
-        Ok(held) => Found {
-            ask: ask_of(request, &held),
-            checked: Checked::Passed(None),
-            held,
-        },
+    match check_after(request, &mut found.held) {
+        Err(code) => {
+            *found = Found {
+                ask: late_ask(request),
+                checked: Checked::Passed(Some(code)),
+                held: nothing(),
+            };
+        }
+        Ok(()) => {
+            found.ask = ask_of(request, &found.held);
+            found.checked = Checked::Passed(None);
+        }
     }
 }
 
-// What the checks of a message come to.
+// Finds what the checks of a message come to: nothing of what was found before is kept. It is put in its place, since a
+// key that is handed on by value is copied at each call.
 #[tactic(auto, unfolding(hsm_answers::specs::Asks::ask_read))]
-pub(crate) fn check_message(request: &Request<'_, '_>, cache: &mut KeyCache) -> Found
+pub(crate) fn check_message(request: &Request<'_, '_>, cache: &mut KeyCache, found: &mut Found)
     requires agrees { Agrees (module_of request.now).lmk (kept_in cache.old).entries }
     requires stands { RowStands (module_of request.now) (row_rules request.now) (texts_of request.now) }
-    ensures ask { result.ask ≡ ask_read (module_of request.now) (row_rules request.now) (Ok (texts_of request.now)) }
-    ensures may { CanAsk result.ask }
-    ensures checks { AreChecked (module_of request.now) (row_rules request.now) (texts_of request.now) result.checked }
-    ensures held { result.checked ≡ Passed None → IsHeld (module_of request.now) (row_rules request.now) (texts_of request.now) result.held }
+    ensures ask { found.new.ask ≡ ask_read (module_of request.now) (row_rules request.now) (Ok (texts_of request.now)) }
+    ensures may { CanAsk found.new.ask }
+    ensures checks { AreChecked (module_of request.now) (row_rules request.now) (texts_of request.now) found.new.checked }
+    ensures held { found.new.checked ≡ Passed None → IsHeld (module_of request.now) (row_rules request.now) (texts_of request.now) found.new.held }
     ensures agrees { Agrees (module_of request.now).lmk (kept_in cache.new).entries }
     ensures capacity { capacity_of cache.new ≡ capacity_of cache.old }
     ensures kept { kept_in cache.new ≡ kept_all (capacity_of cache.old) (kept_in cache.old) (checks_entries (module_of request.now) (row_rules request.now) (texts_of request.now) (row_rules request.now).keys) }
 {
-    match check_before(request, cache) {
-        Err(code) => refused(Checked::Failed(code)),
-        Ok(keys) => found_after(request, &keys),
+    match check_before(request, cache, &mut found.held.keys) {
+        Err(code) => *found = refused(Checked::Failed(code)),
+        Ok(()) => find_after(request, found),
     }
 }

@@ -8,40 +8,29 @@ ghost use Rattle.hsm_commands.specs.Written.{written_text};
 ghost use Rattle.hsm_commands.specs.Request.{Meets, MeetsEach, Leaves, module_of, row_rules, texts_of};
 
 use crate::given::check_data;
-use crate::keys::OpenedKeys;
 use crate::request::Request;
 use crate::terms::HeldParts;
-use crate::value::{Texts, compared_code, value_of};
+use crate::value::{compared_code, value_of};
 use hsm_rows::Code;
-use hsm_types::Pin;
 
-fn held_of(keys: &OpenedKeys, pin: &Option<Pin>, texts: &Texts) -> HeldParts
-    ensures { result ≡ record { keys = keys.now; pin = pin.now; value = texts.now.value; chain = texts.now.chain } }
-{
-    HeldParts {
-        keys: *keys,
-        pin: *pin,
-        value: texts.value,
-        chain: texts.chain,
-    }
-}
-
-// What the message holds, or the code of the first check after its entry that fails.
+// Adds what the message holds beside its keys, or answers the code of the first check after its entry that fails.
 #[tactic(auto, unfolding(hsm_answers::specs::Checks::check_after, hsm_answers::specs::Checks::checks_fault))]
-pub(crate) fn check_after(request: &Request<'_, '_>, keys: &OpenedKeys) -> Result<HeldParts, Code>
-    requires checks { MeetsEach request.now keys.now (map (check_demands (row_rules request.now).pin) (row_rules request.now).checks) }
+pub(crate) fn check_after(request: &Request<'_, '_>, held: &mut HeldParts) -> Result<(), Code>
+    requires checks { MeetsEach request.now held.old.keys (map (check_demands (row_rules request.now).pin) (row_rules request.now).checks) }
     requires have { have_pin false (row_rules request.now).checks ≡ true }
-    requires value { Meets request.now keys.now (value_demands (row_rules request.now) (row_rules request.now).value) }
+    requires value { Meets request.now held.old.keys (value_demands (row_rules request.now) (row_rules request.now).value) }
     ensures fault { code_in result ≡ check_after (module_of request.now) (row_rules request.now) (texts_of request.now) }
-    ensures keys { IfOk result (λ h. h.keys ≡ keys.now) }
-    ensures pin { IfOk result (λ h. Leaves request.now h.pin) }
-    ensures value { IfOk result (λ h. written_text h.value ≡ row_value (module_of request.now) (row_rules request.now) (texts_of request.now) (row_rules request.now).value) }
-    ensures chain { IfOk result (λ h. written_text h.chain ≡ chain_value (module_of request.now) (row_rules request.now) (texts_of request.now) (row_rules request.now).value) }
+    ensures keys { held.new.keys ≡ held.old.keys }
+    ensures pin { IfOk result (λ _. Leaves request.now held.new.pin) }
+    ensures value { IfOk result (λ _. written_text held.new.value ≡ row_value (module_of request.now) (row_rules request.now) (texts_of request.now) (row_rules request.now).value) }
+    ensures chain { IfOk result (λ _. written_text held.new.chain ≡ chain_value (module_of request.now) (row_rules request.now) (texts_of request.now) (row_rules request.now).value) }
 {
-    let pin = check_data(request, keys, None, request.rules.checks)?;
-    let texts = value_of(request, keys, &pin, request.rules.value);
-    match compared_code(request, request.rules.compared, &texts.value) {
+    held.pin = check_data(request, &held.keys, None, request.rules.checks)?;
+    let texts = value_of(request, &held.keys, &held.pin, request.rules.value);
+    held.value = texts.value;
+    held.chain = texts.chain;
+    match compared_code(request, request.rules.compared, &held.value) {
         Some(code) => Err(code),
-        None => Ok(held_of(keys, &pin, &texts)),
+        None => Ok(()),
     }
 }

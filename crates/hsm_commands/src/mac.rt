@@ -61,7 +61,8 @@ fn decode(digits: &[u8], bytes: &mut [u8])
     let _ = hex::decode_to_slice(digits, bytes);
 }
 
-// The same of the bytes that hexadecimal digits name.
+// The same of the bytes that hexadecimal digits name. It is not inlined: only this way should take the room that they may need.
+#[inline(never)]
 fn value_of_hex(key: &Key, asked: &MacAsked, digits: &[u8]) -> Result<u64, Uneven>
     requires key { IsTrue (takes_key asked.now.alg key.now) }
     requires hexadecimal { IsTrue (list_all is_ascii_hexdigit digits.now) }

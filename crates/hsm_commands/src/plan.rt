@@ -121,7 +121,8 @@ pub fn prepare_cached<'m>(
                 fields: &fields,
             };
             let wrong_words = refuses_words(&request);
-            let found = check_message(&request, cache);
+            let mut found = refused(Checked::Passed(None));
+            check_message(&request, cache, &mut found);
             Plan {
                 row,
                 text,

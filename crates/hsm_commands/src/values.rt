@@ -71,7 +71,8 @@ pub(crate) struct OffsetAsked<'a> {
     pub(crate) check: usize,
 }
 
-// The offset of the PIN's first digits.
+// The offset of the PIN's first digits. It is not inlined: only the messages that have one should make its room.
+#[inline(never)]
 pub(crate) fn offset_text(pvk: &Key, asked: &OffsetAsked<'_>, pin: &Pin) -> [u8; 12]
     requires validation { IsValidation asked.now.validation.now }
     requires account { IsTrue (list_all is_decimal asked.now.account) }
@@ -83,7 +84,8 @@ pub(crate) fn offset_text(pvk: &Key, asked: &OffsetAsked<'_>, pin: &Pin) -> [u8;
     characters(&offset(&natural, pin, asked.check))
 }
 
-// The PVV of the PIN.
+// The PVV of the PIN. It is not inlined, as an offset is not.
+#[inline(never)]
 pub(crate) fn pvv_text(pair: &KeyPair, account: &[u8; 12], index: u8, pin: &Pin) -> [u8; 4]
     requires first { length pair.now.first ≡ 1 }
     requires second { length pair.now.second ≡ 1 }

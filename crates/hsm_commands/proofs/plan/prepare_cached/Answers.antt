@@ -12,8 +12,8 @@ use Rattle.hsm_commands.proofs.FormLaws.{are_read}
 use Rattle.hsm_commands.proofs.PlanSteps.{unread_planned, read_planned, ready_is}
 use Rattle.hsm_commands.proofs.plan.prepare_cached.Goals as goal
 
-pub check_message-found-requires-clause-stands : goal.check_message-found-requires-clause-stands
-check_message-found-requires-clause-stands c =
+pub check_message-requires-clause-stands : goal.check_message-requires-clause-stands
+check_message-requires-clause-stands c =
     let m = c.args.module.now in
     let row = shape_of c.args.row.now in
     let text = c.args.text.now in
@@ -53,8 +53,8 @@ returns-in-Ok-clause-plan c =
     let r = read_text_of c.in-Ok.fields in
     let read = c.in-Ok.ensures.reading in
     let texts = are_read row r (λ h. c.texts_stand.ensures.are row text r h read) (λ h. c.texts_stand.ensures.console row text r h read) in
-    let found = c.check_message-found.result in
-    let h = c.check_message-found.ensures in
+    let found = c.check_message.new.found in
+    let h = c.check_message.ensures in
     let same = c.rules.ensures in
     let C : RowRules → Type 0 = λ x. AreChecked m x r found.checked in
     let H : RowRules → Type 0 = λ x. found.checked ≡ Passed None → IsHeld m x r found.held in
