@@ -1,27 +1,14 @@
 -- What a cache keeps of the connections of a lane, one after another, and the hits that their reports count.
-use Rattle.std.proofs.Common.{◌≡◌, ◌⊎◌, ℕ, zero, suc, ◌+◌, List, [], ◌∷◌, ◌++◌, flat_map, slice_get, take, Some, refl, sym, ap, ◌∙◌, inl, inr, append-nil, arith}
+use Rattle.std.proofs.Common.{◌≡◌, ◌⊎◌, ℕ, zero, suc, ◌+◌, List, [], ◌∷◌, ◌++◌, slice_get, take, Some, refl, sym, ap, ◌∙◌, inl, inr, append-nil, arith}
 use Rattle.std.proofs.lemmas.Grind.{flat_map-append}
-use Rattle.hsm_answers.specs.Kept.{opened_of}
 use Rattle.hsm_auth.specs.declared.activity.Place.{Place}
-use Rattle.hsm_lmk.specs.Cache.{Kept, kept_all, kept_one}
+use Rattle.hsm_lmk.specs.Cache.{Kept}
 use Rattle.hsm_lmk.specs.Caches.{capacity_of, kept_in}
 use Rattle.hsm_lmk.specs.declared.kept.KeyCache.{KeyCache}
-use Rattle.hsm_lmk.specs.declared.kept.KeyEntry.{KeyEntry}
 use Rattle.hsm_rows.specs.declared.settings.Module.{Module}
+use Rattle.hsm_session.proofs.Keeping.{kept_both}
 use Rattle.hsm_session.specs.Connections.{Keeps, kept_after}
 use Rattle.hsm_server.specs.Lanes.{CountsHits, Served, all_messages}
-
--- entries that are kept one list after another
-kept_joined : (capacity : ℕ) (kept : Kept) (es fs : List KeyEntry) → kept_all capacity kept (es ++ fs) ≡ kept_all capacity (kept_all capacity kept es) fs
-kept_joined capacity kept [] fs = refl
-kept_joined capacity kept (e ∷ es) fs = kept_joined capacity (kept_one capacity kept e) es fs
-
--- messages that are answered one list after another
-kept_both : (m : Module) (kind : Place) (capacity : ℕ) (kept : Kept) (xs ys : List (List ℕ))
-    → kept_after m kind capacity kept (xs ++ ys) ≡ kept_after m kind capacity (kept_after m kind capacity kept xs) ys
-kept_both m kind capacity kept xs ys =
-    ap (λ (all : List KeyEntry). kept_all capacity kept all) (flat_map-append (opened_of m kind) xs ys)
-    ∙ kept_joined capacity kept (flat_map (opened_of m kind) xs) (flat_map (opened_of m kind) ys)
 
 all_messages_more : (connections : List Served) (served : Served) → all_messages connections ++ served.messages ≡ all_messages (connections ++ served ∷ [])
 all_messages_more connections served = sym (

@@ -3,26 +3,27 @@ use Rattle.std.proofs.Common.{◌≡◌, ℕ, List, [], ◌∷◌, ◌++◌, fla
 use Rattle.std.proofs.lemmas.Grind.{flat_map-append}
 use Rattle.hsm_answers.specs.Kept.{opened_of}
 use Rattle.hsm_auth.specs.declared.activity.Place.{Place}
-use Rattle.hsm_lmk.specs.Cache.{Kept, kept_all, kept_one}
+use Rattle.hsm_commands.proofs.KeptLaws.{kept_joined}
+use Rattle.hsm_lmk.specs.Cache.{Kept, kept_all}
 use Rattle.hsm_lmk.specs.Caches.{capacity_of, kept_in}
 use Rattle.hsm_lmk.specs.declared.kept.KeyCache.{KeyCache}
 use Rattle.hsm_lmk.specs.declared.kept.KeyEntry.{KeyEntry}
 use Rattle.hsm_rows.specs.declared.settings.Module.{Module}
 use Rattle.hsm_session.specs.Connections.{Keeps, kept_after}
 
--- entries that are kept one list after another
-kept_joined : (capacity : ℕ) (kept : Kept) (es fs : List KeyEntry) → kept_all capacity kept (es ++ fs) ≡ kept_all capacity (kept_all capacity kept es) fs
-kept_joined capacity kept [] fs = refl
-kept_joined capacity kept (e ∷ es) fs = kept_joined capacity (kept_one capacity kept e) es fs
+-- messages that are answered one list after another
+pub kept_both : (m : Module) (kind : Place) (capacity : ℕ) (kept : Kept) (xs ys : List (List ℕ))
+    → kept_after m kind capacity kept (xs ++ ys) ≡ kept_after m kind capacity (kept_after m kind capacity kept xs) ys
+kept_both m kind capacity kept xs ys =
+    ap (λ (all : List KeyEntry). kept_all capacity kept all) (flat_map-append (opened_of m kind) xs ys)
+    ∙ kept_joined capacity kept (flat_map (opened_of m kind) xs) (flat_map (opened_of m kind) ys)
 
 -- the keys of one more message
 kept_push : (m : Module) (kind : Place) (capacity : ℕ) (kept : Kept) (messages : List (List ℕ)) (message : List ℕ)
     → kept_after m kind capacity kept (messages ++ message ∷ []) ≡ kept_all capacity (kept_after m kind capacity kept messages) (opened_of m kind message)
 kept_push m kind capacity kept messages message =
-    let first = flat_map (opened_of m kind) messages in
-    let split : flat_map (opened_of m kind) (messages ++ message ∷ []) ≡ first ++ opened_of m kind message =
-    flat_map-append (opened_of m kind) messages (message ∷ []) ∙ ap (λ (last : List KeyEntry). first ++ last) (append-nil (opened_of m kind message)) in
-    ap (λ (all : List KeyEntry). kept_all capacity kept all) split ∙ kept_joined capacity kept first (opened_of m kind message)
+    kept_both m kind capacity kept messages (message ∷ [])
+    ∙ ap (λ (keys : List KeyEntry). kept_all capacity (kept_after m kind capacity kept messages) keys) (append-nil (opened_of m kind message))
 
 -- no message yet
 pub keeps_none : (m : Module) (kind : Place) (cache : KeyCache) → Keeps m kind cache cache []

@@ -13,7 +13,7 @@ use crate::replies::{gather, send};
 use arrayvec::ArrayVec;
 use hsm_answers::words_authorise;
 use hsm_auth::Place;
-use hsm_desk::{Desk, Pass};
+use hsm_desk::{Booked, Desk, Pass};
 use hsm_frame::laws::has_one_reading;
 use hsm_frame::{Frames, Next};
 use hsm_io::{Clock, Gate, Got, Link};
@@ -113,7 +113,7 @@ impl Count {
     }
 }
 
-// Books the ask of a message, and puts its answer in the place of the reply.
+// Books the ask of a message, and puts its answer in the place of the reply, and what was booked in that of `booked`.
 // A constant parameter that nothing reads: the toolchain has no plan for a value that holds a type with a lifetime in a function without parameters.
 fn book_message<R: Wait, C: Clock, G: Gate, const N: usize>(
     rt: &R,
@@ -126,6 +126,7 @@ fn book_message<R: Wait, C: Clock, G: Gate, const N: usize>(
     cache: &mut KeyCache,
     lane: u32,
     message: &[u8],
+    booked: &mut Booked,
     reply: &mut Reply,
     count: &mut Count,
 )
@@ -144,11 +145,11 @@ fn book_message<R: Wait, C: Clock, G: Gate, const N: usize>(
         (holding rest (out ++ frame reply.new) count.new) }
 {
     words_authorise();
-    let plan = prepare_cached(module, cache, kind, message);
+    let plan = &prepare_cached(module, cache, kind, message);
     gate.before_book(lane, count.messages);
-    let booked = desk.book(rt, pass, clock, &plan.ask());
+    desk.book_into(rt, pass, clock, &plan.ask(), booked);
     gate.after_book(lane, count.messages);
-    finish(module, &plan, &booked.granted, reply);
+    finish(module, plan, &booked.granted, reply);
     count.add(booked.place);
 }
 
@@ -200,6 +201,7 @@ fn answer_messages<R: Wait, K: Link, C: Clock, G: Gate>(
 {
     has_one_reading();
     let lane = tools.lane;
+    let mut booked = Booked::nothing();
     'messages: loop {
         match tools.frames.next() {
             Next::Message(message) => {
@@ -214,6 +216,7 @@ fn answer_messages<R: Wait, K: Link, C: Clock, G: Gate>(
                     &mut tools.cache,
                     lane,
                     message,
+                    &mut booked,
                     &mut tools.reply,
                     count,
                 );
