@@ -1,13 +1,14 @@
 // A server of seven commands over libcrypto's DES, which bench/serve sets beside ours.
 //
-//     serve PORT      listens at 127.0.0.1:PORT under LMK set T with headers of four bytes, until it is ended
+//     serve PORT         listens at 127.0.0.1:PORT under LMK set T with headers of four bytes, until it is ended
+//     serve PORT keep    the same, and keeps the schedules of kept keys; a connection has at most 64 keys
 //
 // A thread serves each connection: blocking reads of at most 4,096 bytes, frames of two bytes of length and the message,
 // the replies gathered and written before the next read. It answers CA, CC, EA, DC, EC, CY and M6 with the checks of their
 // fields, keys and data in the order that docs/COMMANDS.md gives, and anything else with 68. A connection keeps the last
 // 64 keys that it opened under the LMK pairs, by their types and texts, in a ring that is searched from its oldest entry.
-// A key's schedules are made for each message, as ours are. Only fills that draw no words are written: a reply in format
-// 05 or 47 is no part of this load, and is refused with 68.
+// A key's schedules are made for each message, or with `keep` once: those of a kept key are copied. Only fills that draw no
+// words are written: a reply in format 05 or 47 is no part of this load, and is refused with 68.
 #define OPENSSL_SUPPRESS_DEPRECATED
 #include <arpa/inet.h>
 #include <netinet/tcp.h>
@@ -26,14 +27,21 @@ enum { ZPK = 0, PVK = 1, CVK = 2, ZAK = 3, TAK = 4, TYPES = 5 };
 typedef unsigned char Byte;
 
 typedef struct {
+    DES_key_schedule first, second, third;
+} Schedules;
+
+// `kept` are its schedules, or NULL where they are not kept.
+typedef struct {
     int parts;
     Byte bytes[24];
+    const Schedules *kept;
 } Key;
 
 typedef struct {
     int type, length;
     Byte text[49];
     Key key;
+    Schedules schedules;
 } Entry;
 
 typedef struct {
@@ -41,15 +49,13 @@ typedef struct {
     int count, oldest;
 } Table;
 
+static int keeps_schedules;
+
 // A text under way: what is left of it. `bad` is the code of the first field of which no text stands.
 typedef struct {
     const Byte *at, *end;
     int bad;
 } Scan;
-
-typedef struct {
-    DES_key_schedule first, second, third;
-} Schedules;
 
 // The pair and the variant of each type.
 static const Byte pair_of[TYPES] = {3, 7, 7, 13, 8}, variant_of[TYPES] = {0, 0, 0xDE, 0, 0};
@@ -78,6 +84,13 @@ static void schedule_of(const Byte *bytes, Byte variant, DES_key_schedule *sched
 
 static void schedules_of(const Key *key, Schedules *made)
 {
+    if (key->kept) {
+        made->first = key->kept->first;
+        made->second = key->kept->second;
+        if (key->parts > 2)
+            made->third = key->kept->third;
+        return;
+    }
     schedule_of(key->bytes, 0, &made->first);
     if (key->parts > 1)
         schedule_of(key->bytes + 8, 0, &made->second);
@@ -109,6 +122,7 @@ static int open_key(int type, Byte scheme, const Byte *in, int parts, Key *key)
     DES_key_schedule first, second;
     schedule_of(left, variant_of[type], &first);
     key->parts = parts;
+    key->kept = NULL;
     for (int i = 0; i < parts; i++) {
         DES_LONG words[2];
         if (i == 0 || scheme == 'U' || scheme == 'T')
@@ -239,6 +253,10 @@ static const Key *key_of(Table *table, int type, const KeyText *given)
     entry->type = type;
     entry->length = given->length;
     memcpy(entry->text, given->text, (size_t)given->length);
+    if (keeps_schedules) {
+        schedules_of(&opened, &entry->schedules);
+        opened.kept = &entry->schedules;
+    }
     entry->key = opened;
     return &entry->key;
 }
@@ -704,7 +722,8 @@ int main(int count, char **arguments)
 {
     struct sockaddr_in address = {.sin_family = AF_INET, .sin_addr.s_addr = htonl(INADDR_LOOPBACK)};
     const int listener = socket(AF_INET, SOCK_STREAM, 0), on = 1;
-    if (count != 2)
+    keeps_schedules = count == 3 && !strcmp(arguments[2], "keep");
+    if (count != 2 && !keeps_schedules)
         return 2;
     address.sin_port = htons((uint16_t)atoi(arguments[1]));
     setsockopt(listener, SOL_SOCKET, SO_REUSEADDR, &on, sizeof on);

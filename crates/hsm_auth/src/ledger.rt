@@ -61,7 +61,7 @@ impl Ledger {
         granted
     }
 
-    /// The same, with the answer put in the place of `granted`: an answer has 544 bytes, which are then moved nowhere.
+    /// [`Ledger::step`] with the answer put in the place of `granted`: an answer has 544 bytes, which are then moved nowhere.
     pub fn step_into(&mut self, moment: u64, ask: &Ask, granted: &mut Granted)
         requires moment { moment ≤ 2 ^ 40 }
         requires ask { CanAsk ask.now }

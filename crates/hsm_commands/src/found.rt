@@ -106,7 +106,7 @@ fn late_ask(request: &Request<'_, '_>) -> Ask
 }
 
 // Finds what the checks of a message come to whose keys hold, and are there.
-fn find_after(request: &Request<'_, '_>, found: &mut Found)
+fn find_after(request: &Request<'_, '_>, cache: &KeyCache, found: &mut Found)
     requires stands { RowStands (module_of request.now) (row_rules request.now) (texts_of request.now) }
     requires keys { KeysHold (module_of request.now) (row_rules request.now) (texts_of request.now) (row_rules request.now).keys found.old.held.keys }
     requires good { check_before (module_of request.now) (row_rules request.now) (texts_of request.now) ≡ None }
@@ -115,7 +115,7 @@ fn find_after(request: &Request<'_, '_>, found: &mut Found)
     ensures checks { AreChecked (module_of request.now) (row_rules request.now) (texts_of request.now) found.new.checked }
     ensures held { found.new.checked ≡ Passed None → IsHeld (module_of request.now) (row_rules request.now) (texts_of request.now) found.new.held }
 {
-    match check_after(request, &mut found.held) {
+    match check_after(request, cache, &mut found.held) {
         Err(code) => {
             *found = Found {
                 ask: late_ask(request),
@@ -131,7 +131,8 @@ fn find_after(request: &Request<'_, '_>, found: &mut Found)
 }
 
 // Finds what the checks of a message come to: nothing of what was found before is kept. It is put in its place, since a
-// key that is handed on by value is copied at each call.
+// key that is handed on by value is copied at each call. It is not inlined, as what makes a plan of it is.
+#[inline(never)]
 #[tactic(auto, unfolding(hsm_answers::specs::Asks::ask_read))]
 pub(crate) fn check_message(request: &Request<'_, '_>, cache: &mut KeyCache, found: &mut Found)
     requires agrees { Agrees (module_of request.now).lmk (kept_in cache.old).entries }
@@ -146,6 +147,6 @@ pub(crate) fn check_message(request: &Request<'_, '_>, cache: &mut KeyCache, fou
 {
     match check_before(request, cache, &mut found.held.keys) {
         Err(code) => *found = refused(Checked::Failed(code)),
-        Ok(()) => find_after(request, found),
+        Ok(()) => find_after(request, cache, found),
     }
 }

@@ -15,6 +15,7 @@ use crate::keys::{OpenedKeys, held_key};
 use crate::pins::{bad_table, longer, opened_pin, sent_pin, shorter};
 use crate::request::Request;
 use crate::texts::{block_of_field, digits_of, format_of, number_at, text_of};
+use hsm_lmk::KeyCache;
 use hsm_rows::{Code, DataCheck, PinSource};
 use hsm_types::Pin;
 
@@ -22,6 +23,7 @@ use hsm_types::Pin;
 #[tactic(auto, unfolding(hsm_answers::specs::Pins::pin_fault, hsm_answers::specs::Pins::pin_from))]
 pub(crate) fn pin_given(
     request: &Request<'_, '_>,
+    cache: &KeyCache,
     keys: &OpenedKeys,
     source: PinSource,
 ) -> Result<Pin, Code>
@@ -39,6 +41,7 @@ pub(crate) fn pin_given(
             let account = digits_of(request, account);
             let sent = block_of_field(request, block);
             sent_pin(
+                cache,
                 &held_key(keys, key),
                 format_of(request, format),
                 sent,
@@ -70,6 +73,7 @@ fn code_of(code: Option<Code>, pin: Option<Pin>) -> Result<Option<Pin>, Code>
 #[tactic(auto, unfolding(hsm_answers::specs::Checks::data_fault))]
 fn check_one(
     request: &Request<'_, '_>,
+    cache: &KeyCache,
     keys: &OpenedKeys,
     pin: Option<Pin>,
     check: DataCheck,
@@ -83,7 +87,7 @@ fn check_one(
 {
     match check {
         DataCheck::TableCheck(k) => code_of(bad_table(&digits_of(request, k)), pin),
-        DataCheck::PinCheck => match pin_given(request, keys, request.rules.pin) {
+        DataCheck::PinCheck => match pin_given(request, cache, keys, request.rules.pin) {
             Ok(pin) => Ok(Some(pin)),
             Err(code) => Err(code),
         },
@@ -104,6 +108,7 @@ fn check_one(
 // The PIN after the data checks, or the code of the first that finds something.
 pub(crate) fn check_data(
     request: &Request<'_, '_>,
+    cache: &KeyCache,
     keys: &OpenedKeys,
     pin: Option<Pin>,
     checks: &[DataCheck],
@@ -118,8 +123,8 @@ pub(crate) fn check_data(
     match checks {
         [] => Ok(pin),
         [check, more @ ..] => {
-            let pin = check_one(request, keys, pin, *check)?;
-            check_data(request, keys, pin, more)
+            let pin = check_one(request, cache, keys, pin, *check)?;
+            check_data(request, cache, keys, pin, more)
         }
     }
 }

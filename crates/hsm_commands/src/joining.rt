@@ -79,7 +79,9 @@ fn adjusted_key(scheme: Scheme, bytes: &[u8]) -> Key
     }
 }
 
-// The key that the components make: their exclusive-or, adjusted to odd parity.
+// The key that the components make: their exclusive-or, adjusted to odd parity. It is not inlined: only the messages that
+// have components should make its room.
+#[inline(never)]
 #[tactic(auto, unfolding(hsm_answers::specs::Values::joined_key))]
 pub(crate) fn joined_key(request: &Request<'_, '_>) -> Key
     requires { AreComponents (made_scheme (row_rules request.now) (texts_of request.now)) (texts_of request.now) (row_rules request.now).components }

@@ -11,11 +11,16 @@ use crate::given::check_data;
 use crate::request::Request;
 use crate::terms::HeldParts;
 use crate::value::{compared_code, value_of};
+use hsm_lmk::KeyCache;
 use hsm_rows::Code;
 
 // Adds what the message holds beside its keys, or answers the code of the first check after its entry that fails.
 #[tactic(auto, unfolding(hsm_answers::specs::Checks::check_after, hsm_answers::specs::Checks::checks_fault))]
-pub(crate) fn check_after(request: &Request<'_, '_>, held: &mut HeldParts) -> Result<(), Code>
+pub(crate) fn check_after(
+    request: &Request<'_, '_>,
+    cache: &KeyCache,
+    held: &mut HeldParts,
+) -> Result<(), Code>
     requires checks { MeetsEach request.now held.old.keys (map (check_demands (row_rules request.now).pin) (row_rules request.now).checks) }
     requires have { have_pin false (row_rules request.now).checks ≡ true }
     requires value { Meets request.now held.old.keys (value_demands (row_rules request.now) (row_rules request.now).value) }
@@ -25,7 +30,7 @@ pub(crate) fn check_after(request: &Request<'_, '_>, held: &mut HeldParts) -> Re
     ensures value { IfOk result (λ _. written_text held.new.value ≡ row_value (module_of request.now) (row_rules request.now) (texts_of request.now) (row_rules request.now).value) }
     ensures chain { IfOk result (λ _. written_text held.new.chain ≡ chain_value (module_of request.now) (row_rules request.now) (texts_of request.now) (row_rules request.now).value) }
 {
-    held.pin = check_data(request, &held.keys, None, request.rules.checks)?;
+    held.pin = check_data(request, cache, &held.keys, None, request.rules.checks)?;
     let texts = value_of(request, &held.keys, &held.pin, request.rules.value);
     held.value = texts.value;
     held.chain = texts.chain;

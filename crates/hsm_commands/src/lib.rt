@@ -25,4 +25,4 @@ mod words;
 mod written;
 
 pub use fit::{console_rows_followed, fits_followed, host_rows_followed};
-pub use plan::{Plan, finish, prepare, prepare_cached};
+pub use plan::{Plan, finish, finish_cached, prepare, prepare_cached};

@@ -7,15 +7,16 @@ ghost use Rattle.hsm_answers.specs.Given.{code_in};
 ghost use Rattle.hsm_answers.specs.Plans.{code_number};
 ghost use Rattle.hsm_commands.specs.Values.{sent_fault, sent_pin, longer_fault, shorter_fault, table_fault, sealed_fault, opened_pin};
 
-use hsm_lmk::LmkSet;
+use hsm_lmk::{KeyCache, LmkSet};
 use hsm_pinblock::{BlockFault, Format, open_pin, read};
 use hsm_rows::Code;
-use hsm_tdes::{Key, decipher};
+use hsm_tdes::Key;
 use hsm_types::Pin;
 use hsm_verify::table_ok;
 
 // The PIN of a block that was sent under the key: 20 or 24 for the block's fault.
 pub(crate) fn sent_pin(
+    cache: &KeyCache,
     key: &Key,
     format: Format,
     block: u64,
@@ -25,7 +26,7 @@ pub(crate) fn sent_pin(
     ensures fault { code_in result ≡ sent_fault key.now format block account.now }
     ensures pin { IfOk result (λ pin. pin ≡ sent_pin key.now format block account.now) }
 {
-    match read(format, decipher(key, block), account) {
+    match read(format, cache.decipher(key, block), account) {
         Ok(pin) => Ok(pin),
         Err(BlockFault::Length) => Err(Code(24)),
         Err(BlockFault::Control) | Err(BlockFault::Body) => Err(Code(20)),

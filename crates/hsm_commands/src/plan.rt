@@ -46,7 +46,13 @@ impl<'m> Plan<'m> {
 }
 
 // Appends the reply fields: the console's that are there each after one space.
-fn put_fields(module: &Module, plan: &Plan<'_>, granted: &Granted, reply: &mut Reply)
+fn put_fields(
+    module: &Module,
+    cache: &KeyCache,
+    plan: &Plan<'_>,
+    granted: &Granted,
+    reply: &mut Reply,
+)
     requires ready { IsReady «module».now (rules_of (plan_row plan.now)) (plan_row plan.now).terms (plan_read plan.now) plan.now.found.held }
     requires place { first_of granted.now < 2 ^ 63 }
     requires room { length reply.old + terms_room (plan_read plan.now) (plan_row plan.now).terms ≤ 65535 }
@@ -63,6 +69,7 @@ fn put_fields(module: &Module, plan: &Plan<'_>, granted: &Granted, reply: &mut R
     let place = first_of(granted);
     let entry = Entry {
         request: &request,
+        cache,
         held,
         granted,
         key: key_at_entry(&request, place),
@@ -87,6 +94,8 @@ fn no_fields<'m>() -> Fields<'m>
 
 /// The plan of a message. The text is what follows the command code, or the word. Its keys under the LMK are those that
 /// the cache keeps, or are opened, and kept up to the first key with a fault.
+// Inlined, so that a plan, of 400 bytes, is made where it is kept: else each call on the way copies it.
+#[inline(always)]
 #[tactic(auto, unfolding(hsm_answers::specs::Kept::opened_by))]
 pub fn prepare_cached<'m>(
     module: &Module,
@@ -147,7 +156,13 @@ pub fn prepare<'m>(module: &Module, row: &'static Row, text: &'m [u8]) -> Plan<'
 }
 
 // Appends the answer of a host's message: the reply code, the error code, with 00 the reply fields, and the trailer.
-fn put_host(module: &Module, plan: &Plan<'_>, granted: &Granted, reply: &mut Reply)
+fn put_host(
+    module: &Module,
+    cache: &KeyCache,
+    plan: &Plan<'_>,
+    granted: &Granted,
+    reply: &mut Reply,
+)
     requires host { is_console (plan_row plan.now) ≡ false }
     requires plan { IsPlanOf «module».now plan.now }
     requires place { first_of granted.now < 2 ^ 63 }
@@ -157,7 +172,7 @@ fn put_host(module: &Module, plan: &Plan<'_>, granted: &Granted, reply: &mut Rep
 {
     planned_answer();
     if put_code(plan.row, &plan.found.checked, granted, reply) {
-        put_fields(module, plan, granted, reply);
+        put_fields(module, cache, plan, granted, reply);
     }
     reply.put(plan.fields.trailer);
 }
@@ -170,7 +185,13 @@ fn is_full(granted: &Granted) -> bool
 }
 
 // Appends the answer of a console's text: `OK` with the reply fields, or `NO` and a code, `WORDS` or `FULL`.
-fn put_console(module: &Module, plan: &Plan<'_>, granted: &Granted, reply: &mut Reply)
+fn put_console(
+    module: &Module,
+    cache: &KeyCache,
+    plan: &Plan<'_>,
+    granted: &Granted,
+    reply: &mut Reply,
+)
     requires console { is_console (plan_row plan.now) ≡ true }
     requires plan { IsPlanOf «module».now plan.now }
     requires place { first_of granted.now < 2 ^ 63 }
@@ -193,17 +214,24 @@ fn put_console(module: &Module, plan: &Plan<'_>, granted: &Granted, reply: &mut 
                 return;
             }
             reply.put(b"OK");
-            put_fields(module, plan, granted, reply);
+            put_fields(module, cache, plan, granted, reply);
         }
     }
 }
 
 /// Appends the answer of the plan's message at its entry. The words of its ask are drawn from the entry's first place on.
+/// A PIN's block is enciphered with the schedules that the cache, which may be any, keeps of its key.
 ///
 /// A host's is the reply code, the error code, with 00 the reply fields, and the trailer. The console's is `OK` with its
 /// fields each after one space, or `NO` and a two-digit code, `WORDS` or `FULL`. `WORDS` comes where the text reads and
 /// its words aren't the officers', `FULL` where no more grants fit.
-pub fn finish(module: &Module, plan: &Plan<'_>, granted: &Granted, reply: &mut Reply)
+pub fn finish_cached(
+    module: &Module,
+    cache: &KeyCache,
+    plan: &Plan<'_>,
+    granted: &Granted,
+    reply: &mut Reply,
+)
     requires plan { IsPlanOf «module».now plan.now }
     requires fits { Fits (plan_ask plan.now) granted.now }
     requires room { length reply.old ≤ 255 }
@@ -211,8 +239,19 @@ pub fn finish(module: &Module, plan: &Plan<'_>, granted: &Granted, reply: &mut R
     ensures { reply.new ≡ reply.old ++ answer «module».now (plan_row plan.now) (plan_text plan.now) granted.now }
 {
     if is_console(plan.row) {
-        put_console(module, plan, granted, reply);
+        put_console(module, cache, plan, granted, reply);
     } else {
-        put_host(module, plan, granted, reply);
+        put_host(module, cache, plan, granted, reply);
     }
+}
+
+/// The same without a cache.
+pub fn finish(module: &Module, plan: &Plan<'_>, granted: &Granted, reply: &mut Reply)
+    requires plan { IsPlanOf «module».now plan.now }
+    requires fits { Fits (plan_ask plan.now) granted.now }
+    requires room { length reply.old ≤ 255 }
+    requires whole { echoes (plan_row plan.now).terms ≡ true → length reply.old + length (plan_text plan.now) ≤ 65534 }
+    ensures { reply.new ≡ reply.old ++ answer «module».now (plan_row plan.now) (plan_text plan.now) granted.now }
+{
+    finish_cached(module, &KeyCache::none(), plan, granted, reply);
 }

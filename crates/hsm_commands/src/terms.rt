@@ -21,9 +21,9 @@ use crate::value::{Written, account_of, held_pin};
 use crate::written::{BlockAsked, block_drawn, filled_to_twelve, put_sealed};
 use hsm_answers::{draw_key, draw_pin, first_of, put_block, put_key, scheme_named};
 use hsm_auth::Granted;
-use hsm_lmk::{lmk_check, wrapping_pair};
+use hsm_lmk::{KeyCache, lmk_check, wrapping_pair};
 use hsm_rows::{Code, PinSource, Public, Secret, Words};
-use hsm_tdes::{Key, check_value, encipher};
+use hsm_tdes::{Key, check_value};
 use hsm_text::Reply;
 use hsm_types::{Pin, scheme_parts};
 
@@ -36,10 +36,11 @@ pub(crate) struct HeldParts {
     pub(crate) chain: Written,
 }
 
-// A message at its entry: what is held, what the ledger answered, the key that is drawn, and the PIN.
+// A message at its entry: the cache that may keep its keys' schedules, what is held, what the ledger answered, the key that is drawn, and the PIN.
 #[derive(Clone, Copy)]
 pub(crate) struct Entry<'a, 'm> {
     pub(crate) request: &'a Request<'a, 'm>,
+    pub(crate) cache: &'a KeyCache,
     pub(crate) held: &'a HeldParts,
     pub(crate) granted: &'a Granted,
     pub(crate) key: Option<Key>,
@@ -199,7 +200,8 @@ fn put_pin_block(entry: &Entry<'_, '_>, format: u8, key: u8, reply: &mut Reply)
         place: first_of(entry.granted),
     };
     let block = block_drawn(request.module, &asked, &pin);
-    put_block(reply, encipher(&held_key(&entry.held.keys, key), block));
+    let key = held_key(&entry.held.keys, key);
+    put_block(reply, entry.cache.encipher(&key, block));
 }
 
 // Appends a reply field.

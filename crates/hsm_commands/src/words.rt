@@ -32,7 +32,9 @@ fn have_digests(digests: [[u8; 32]; 2], first: &[u8], second: &[u8]) -> bool
     has_digest(first, &digests[0]) && has_digest(second, &digests[1])
 }
 
-// Whether the words of an authorisation, its last two fields, are the officers'.
+// Whether the words of an authorisation, its last two fields, are the officers'. It is not inlined, and neither are the
+// asks of the console below: a host's message should not make their room.
+#[inline(never)]
 #[tactic(auto, unfolding(hsm_answers::specs::Asks::words_hold))]
 fn words_hold(request: &Request<'_, '_>) -> bool
     ensures { result ≡ words_hold (module_of request.now) (texts_of request.now) }
@@ -59,6 +61,7 @@ pub(crate) fn refuses_words(request: &Request<'_, '_>) -> bool
 }
 
 // What an authorisation asks: nothing where the words aren't the officers'.
+#[inline(never)]
 #[tactic(auto, unfolding(hsm_answers::specs::Asks::row_ask))]
 pub(crate) fn authorised(request: &Request<'_, '_>) -> Ask
     requires { is_minutes (field_text (texts_of request.now) 1) ≡ true }
@@ -78,6 +81,7 @@ pub(crate) fn authorised(request: &Request<'_, '_>) -> Ask
 }
 
 // What a cancellation asks.
+#[inline(never)]
 #[tactic(auto, unfolding(hsm_answers::specs::Asks::row_ask))]
 pub(crate) fn cancelled(request: &Request<'_, '_>) -> Ask
     ensures ask { result ≡ row_ask (module_of request.now) (row_rules request.now) (texts_of request.now) CancelAsk }

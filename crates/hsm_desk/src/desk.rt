@@ -285,7 +285,7 @@ impl Desk {
         booked
     }
 
-    /// The same, with what it answers put in the place of `booked`: an answer has 544 bytes, which are then moved nowhere.
+    /// [`Desk::book`] with what it answers put in the place of `booked`: an answer has 544 bytes, which are then moved nowhere.
     pub fn book_into<C: Clock, R: Wait>(
         &self,
         rt: &R,

@@ -1,7 +1,8 @@
 //! A cache of keys that were opened under LMK pairs.
-ghost use Rattle.std.specs.Prelude.{◌≡◌, ◌≤◌, ◌^◌, ◌*◌, ◌++◌, ◌∷◌, [], length, min, take, ◌+◌, IfOk, IfErr, option_map, option_copied};
+ghost use Rattle.std.specs.Prelude.{◌≡◌, ◌≤◌, ◌^◌, ◌*◌, ◌++◌, ◌∷◌, [], length, min, take, ◌+◌, IfOk, IfErr, IfSome, option_map, option_copied};
 ghost use Rattle.std.specs.Int.{w64, from_be_bytes};
 ghost use Rattle.std.specs.Str.{bytes_eq};
+ghost use Rattle.hsm_tdes.specs.Tdes.{enciphered, deciphered};
 ghost use Rattle.hsm_types.specs.Schemes.{scheme_parts};
 ghost use Rattle.hsm_types.specs.Table.{allows_length};
 ghost use Rattle.hsm_lmk.specs.Cache.{Agrees, entry_of, is_of, kept_one, within};
@@ -11,10 +12,11 @@ ghost use Rattle.hsm_lmk.specs.Opening.{refuses_scheme};
 ghost use Rattle.hsm_lmk.specs.Sealing.{wrap};
 
 use crate::kept::{KeyCache, KeyEntry};
+use crate::prepared::PreparedKeys;
 use crate::{LmkSet, OpenFault, open};
 use arrayvec::ArrayVec;
 use circular_buffer::HeapCircularBuffer;
-use hsm_tdes::Key;
+use hsm_tdes::{Key, Prepared, decipher, encipher};
 use hsm_types::{KeyType, Scheme};
 use std::alloc::{AllocError, Global};
 
@@ -27,6 +29,7 @@ impl KeyCache {
     {
         Ok(KeyCache {
             ring: Some(HeapCircularBuffer::with_capacity(alloc, capacity)?),
+            prepared: Some(PreparedKeys::new(alloc)?),
             hits: 0,
         })
     }
@@ -38,6 +41,7 @@ impl KeyCache {
     {
         KeyCache {
             ring: None,
+            prepared: None,
             hits: 0,
         }
     }
@@ -77,9 +81,43 @@ impl KeyCache {
         ensures capacity { capacity_of self.new ≡ capacity_of self.old }
         ensures hits { self.new.hits ≡ self.old.hits }
     {
+        if let Some(prepared) = &mut self.prepared {
+            prepared.add(&entry.key);
+        }
         match &mut self.ring {
             Some(ring) => push(ring, entry),
             None => (),
+        }
+    }
+
+    // The key with its schedules, if they are kept.
+    fn prepared(&self, key: &Key) -> Option<&Prepared>
+        ensures { IfSome result (λ prepared. prepared.now ≡ key.now) }
+    {
+        match &self.prepared {
+            Some(prepared) => prepared.find(key),
+            None => None,
+        }
+    }
+
+    /// The block enciphered under a key, of any cache. The schedules of a key that was kept are at hand, if those of no
+    /// later one have taken their place; those of another key are made.
+    pub fn encipher(&self, key: &Key, block: u64) -> u64
+        ensures { result ≡ enciphered key.now block }
+    {
+        match self.prepared(key) {
+            Some(prepared) => prepared.encipher(block),
+            None => encipher(key, block),
+        }
+    }
+
+    /// The block that `encipher` makes into this one.
+    pub fn decipher(&self, key: &Key, block: u64) -> u64
+        ensures { result ≡ deciphered key.now block }
+    {
+        match self.prepared(key) {
+            Some(prepared) => prepared.decipher(block),
+            None => decipher(key, block),
         }
     }
 }

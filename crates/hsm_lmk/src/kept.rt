@@ -1,6 +1,7 @@
 //! What a cache of opened keys keeps.
 ghost use Rattle.std.specs.Prelude.{◌≤◌, ◌^◌};
 
+use crate::prepared::PreparedKeys;
 use arrayvec::ArrayVec;
 use circular_buffer::HeapCircularBuffer;
 use hsm_tdes::Key;
@@ -25,6 +26,8 @@ pub struct KeyEntry {
 pub struct KeyCache {
     // None where no key is kept.
     pub(crate) ring: Option<HeapCircularBuffer<KeyEntry>>,
+    // Schedules of kept keys. What a cache does with them no contract sees.
+    pub(crate) prepared: Option<PreparedKeys>,
     pub(crate) hits: u64,
     ghost counted: { hits ≤ 2 ^ 63 },
 }

@@ -13,6 +13,7 @@ ghost use Rattle.hsm_lmk.specs.Sealing.{Sealed, under, varied, scheme_variants, 
 mod cache;
 mod kept;
 pub mod laws;
+mod prepared;
 
 use arrayvec::ArrayVec;
 pub use cache::open_cached;

@@ -3,4 +3,4 @@
 
 mod plan;
 
-pub use plan::{PinPlan, finish, prepare, prepare_cached};
+pub use plan::{PinPlan, finish, finish_cached, prepare, prepare_cached};

@@ -85,3 +85,20 @@ pub fn finish(module: &Module, plan: &PinPlan<'_>, granted: &Granted, reply: &mu
 {
     hsm_commands::finish(module, &plan.plan, granted, reply);
 }
+
+/// The same with the schedules that the cache, which may be any, keeps of the key under which a PIN's block is enciphered.
+#[inline(always)]
+pub fn finish_cached(
+    module: &Module,
+    cache: &KeyCache,
+    plan: &PinPlan<'_>,
+    granted: &Granted,
+    reply: &mut Reply,
+)
+    requires plan { IsPlanOf «module».now plan.now }
+    requires fits { Fits (plan_ask plan.now) granted.now }
+    requires room { length reply.old ≤ 255 }
+    ensures { reply.new ≡ reply.old ++ answer «module».now (plan_row plan.now) (plan_text plan.now) granted.now }
+{
+    hsm_commands::finish_cached(module, cache, &plan.plan, granted, reply);
+}

@@ -13,7 +13,7 @@ ghost use Rattle.hsm_session.specs.Booking.{IsBooked, BooksAll, BooksFront, Book
 ghost use Rattle.hsm_session.specs.Runs.{closed_line, end_line, is_cut, is_short, last_line, short_line};
 ghost use Rattle.hsm_session.specs.Lanes.{Drains, FeedsPiece, IsCacheOf, StopsDraining, StopsPiece, lane_end};
 
-use crate::plans::{finish, prepare_cached};
+use crate::plans::{finish_cached, prepare_cached};
 use crate::text::{append, append_hex};
 use arrayvec::ArrayVec;
 use hsm_auth::{Ledger, Place};
@@ -70,7 +70,7 @@ impl Buffers {
     {
         let plan = prepare_cached(module, &mut self.cache, kind, message);
         let granted = ledger.step(moment, &plan.ask());
-        finish(module, &plan, &granted, &mut self.reply);
+        finish_cached(module, &self.cache, &plan, &granted, &mut self.reply);
     }
 
     // Puts what each line of a host lane begins with in the place of the line.

@@ -91,7 +91,9 @@ fn enabled_console_row(module: &Module, word: &[u8]) -> Option<&'static Row>
     console_row(word)
 }
 
-// The plan of a host's message in the row; the text is what follows the command code. It is made where it is handed out.
+// The plan of a host's message in the row; the text is what follows the command code. It is made where it is handed out, and
+// inlined as its parts are, so that it is copied nowhere.
+#[inline(always)]
 fn plan_row<'m>(
     module: &Module,
     cache: &mut KeyCache,
@@ -135,6 +137,7 @@ fn plan_row<'m>(
 }
 
 // The plan of a host's message.
+#[inline(always)]
 fn plan_host<'m>(module: &Module, cache: &mut KeyCache, message: &'m [u8]) -> Plan<'m>
     requires agrees { Agrees «module».now.lmk (kept_in cache.old).entries }
     requires least { least_length «module».now ≤ length message.now }
@@ -159,7 +162,8 @@ fn plan_host<'m>(module: &Module, cache: &mut KeyCache, message: &'m [u8]) -> Pl
     }
 }
 
-// The plan of a console's message.
+// The plan of a console's message. It is not inlined: a host's should not make its room.
+#[inline(never)]
 fn plan_console<'m>(module: &Module, message: &'m [u8]) -> Planned<'m>
     ensures plan { IsPlanOfMessage «module».now Console message.now result }
     ensures ask { planned_ask result ≡ message_ask «module».now Console message.now }
@@ -174,6 +178,7 @@ fn plan_console<'m>(module: &Module, message: &'m [u8]) -> Planned<'m>
 
 /// The plan of a message. The keys of a host's message that the cache keeps are not opened anew; other ones under the LMK are
 /// opened, and kept up to the first key with a fault.
+#[inline(always)]
 pub fn prepare_cached<'m>(
     module: &Module,
     cache: &mut KeyCache,
@@ -247,8 +252,15 @@ fn put_unknown(module: &Module, kind: Place, message: &[u8], reply: &mut Reply)
     }
 }
 
-/// Replaces the reply by the whole answer of the plan's message at its entry: the header, and what its row answers.
-pub fn finish(module: &Module, plan: &Plan<'_>, granted: &Granted, reply: &mut Reply)
+/// Replaces the reply by the whole answer of the plan's message at its entry: the header, and what its row answers. A PIN's
+/// block is enciphered with the schedules that the cache, which may be any, keeps of its key.
+pub fn finish_cached(
+    module: &Module,
+    cache: &KeyCache,
+    plan: &Plan<'_>,
+    granted: &Granted,
+    reply: &mut Reply,
+)
     requires plan { IsPlanOf «module».now plan.now }
     requires fits { Fits (plan_ask plan.now) granted.now }
     ensures { reply.new ≡ message_answer «module».now (plan_kind plan.now) (plan_message plan.now) granted.now }
@@ -259,8 +271,17 @@ pub fn finish(module: &Module, plan: &Plan<'_>, granted: &Granted, reply: &mut R
     match &plan.planned {
         Planned::Unknown => put_unknown(module, plan.kind, plan.message, reply),
         Planned::Key(plan) => hsm_keycmd::finish(module, plan, granted, reply),
-        Planned::Pin(plan) => hsm_pincmd::finish(module, plan, granted, reply),
+        Planned::Pin(plan) => hsm_pincmd::finish_cached(module, cache, plan, granted, reply),
         Planned::Data(plan) => hsm_datacmd::finish(module, plan, granted, reply),
         Planned::Console(plan) => hsm_console::finish(module, plan, granted, reply),
     }
+}
+
+/// The same without a cache.
+pub fn finish(module: &Module, plan: &Plan<'_>, granted: &Granted, reply: &mut Reply)
+    requires plan { IsPlanOf «module».now plan.now }
+    requires fits { Fits (plan_ask plan.now) granted.now }
+    ensures { reply.new ≡ message_answer «module».now (plan_kind plan.now) (plan_message plan.now) granted.now }
+{
+    finish_cached(module, &KeyCache::none(), plan, granted, reply);
 }

@@ -8,7 +8,7 @@ ghost use Rattle.hsm_session.specs.Lanes.{AreBytes, IsCacheOf, IsWaiting};
 ghost use Rattle.hsm_session.specs.Plans.{least_for};
 ghost use Rattle.hsm_session.specs.Serving.{IsServing, StepCause, Steps, holding, no_entry, one_more, report_of};
 
-use crate::plans::{finish, prepare_cached};
+use crate::plans::{finish_cached, prepare_cached};
 use crate::replies::{gather, send};
 use arrayvec::ArrayVec;
 use hsm_answers::words_authorise;
@@ -145,11 +145,11 @@ fn book_message<R: Wait, C: Clock, G: Gate, const N: usize>(
         (holding rest (out ++ frame reply.new) count.new) }
 {
     words_authorise();
-    let plan = &prepare_cached(module, cache, kind, message);
+    let plan = prepare_cached(module, cache, kind, message);
     gate.before_book(lane, count.messages);
     desk.book_into(rt, pass, clock, &plan.ask(), booked);
     gate.after_book(lane, count.messages);
-    finish(module, plan, &booked.granted, reply);
+    finish_cached(module, cache, &plan, &booked.granted, reply);
     count.add(booked.place);
 }
 

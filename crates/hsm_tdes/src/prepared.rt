@@ -1,5 +1,5 @@
 //! Keys whose schedules are made once.
-ghost use Rattle.std.specs.Prelude.{◌≡◌, ◌≤◌, take, drop, length, set};
+ghost use Rattle.std.specs.Prelude.{◌≡◌, ◌≤◌, ◌↔◌, IsTrue, take, drop, length, set};
 ghost use Rattle.hsm_tdes.specs.Tdes.{enciphered, deciphered};
 
 use crate::{Key, Parts, whole};
@@ -58,6 +58,18 @@ impl Prepared {
                     Schedule::new(*c),
                 ),
             },
+        }
+    }
+
+    /// Whether these are the schedules of this key.
+    pub fn is_of(&self, key: &Key) -> bool
+        ensures { IsTrue result ↔ (self.now ≡ key.now) }
+    {
+        match (&self.key.parts, &key.parts) {
+            (Parts::One(a), Parts::One(x)) => a == x,
+            (Parts::Two(a, b), Parts::Two(x, y)) => a == x && b == y,
+            (Parts::Three(a, b, c), Parts::Three(x, y, z)) => a == x && b == y && c == z,
+            _ => false,
         }
     }
 

@@ -1,9 +1,10 @@
 // A cache of opened keys: what it finds, and what it drops.
+ghost use Rattle.std.specs.Prelude.{◌≡◌, length};
 ghost use Rattle.hsm_lmk.specs.Cache.{Agrees};
 ghost use Rattle.hsm_lmk.specs.Caches.{kept_in};
 
 use hsm_lmk::{KeyCache, LmkSet, open_cached, seal};
-use hsm_tdes::Key;
+use hsm_tdes::{Key, encipher};
 use hsm_types::{KeyType, Scheme};
 use std::test::Fail;
 
@@ -64,5 +65,43 @@ fn keys_that_are_found(rt: HostRuntime) -> Result<(), Fail> {
     assert_eq!(rt; opens(&mut cache, &set, KeyType::Zpk, &even), (false, 2));
     assert_eq!(rt; opens(&mut cache, &set, KeyType::Zmk, &first), (false, 2));
     assert_eq!(rt; opens(&mut cache, &set, KeyType::Zpk, &first), (true, 3));
+    Ok(())
+}
+
+// Opens the text of a key of two parts.
+fn open_two(cache: &mut KeyCache, set: &LmkSet, key: &Key)
+    requires agrees { Agrees set.now (kept_in cache.old).entries }
+    requires parts { length key.now ≡ 2 }
+    ensures { Agrees set.now (kept_in cache.new).entries }
+{
+    let mut text = [0; 16];
+    seal(set, KeyType::Zpk, Scheme::U, key, &mut text);
+    let _ = open_cached(cache, set, KeyType::Zpk, Scheme::U, &text);
+}
+
+// Whether the cache enciphers and deciphers a block under the key as it is done without a cache.
+fn ciphers(cache: &KeyCache, key: &Key) -> bool {
+    let block = encipher(key, 0x0123_4567_89AB_CDEF);
+    cache.encipher(key, 0x0123_4567_89AB_CDEF) == block
+        && cache.decipher(key, block) == 0x0123_4567_89AB_CDEF
+}
+
+// Two keys that have their first part in common, and so their place.
+#[test]
+fn blocks_under_kept_keys(rt: HostRuntime) -> Result<(), Fail> {
+    let pair = [
+        0x13, 0x34, 0x57, 0x79, 0x9B, 0xBC, 0xDF, 0xF1, 0x13, 0x34, 0x57, 0x79, 0x9B, 0xBC, 0xDF,
+        0xF1,
+    ];
+    let set = LmkSet::of(&[pair; 20]).ok().ok_or("parity")?;
+    let mut cache = KeyCache::new(rt.alloc(), 2)?;
+    let first = Key::two(&[0x01; 8], &[0x02; 8]);
+    let second = Key::two(&[0x01; 8], &[0x04; 8]);
+    assert!(rt; ciphers(&cache, &first) && ciphers(&cache, &second));
+    open_two(&mut cache, &set, &first);
+    assert!(rt; ciphers(&cache, &first) && ciphers(&cache, &second));
+    open_two(&mut cache, &set, &second);
+    assert!(rt; ciphers(&cache, &first) && ciphers(&cache, &second));
+    assert!(rt; ciphers(&KeyCache::none(), &first));
     Ok(())
 }

@@ -7,7 +7,7 @@ use Rattle.hsm_datacmd.specs.Plans as held
 use Rattle.hsm_console.specs.Plans as officers
 use Rattle.hsm_session.specs.Plans.{planned_row, planned_text, plan_kind}
 use Rattle.hsm_session.proofs.PlanLaws.{unknown_answer_is, planned_answer_is, room_is}
-use Rattle.hsm_session.proofs.plans.finish.Goals as goal
+use Rattle.hsm_session.proofs.plans.finish_cached.Goals as goal
 
 pub put_unknown-requires-clause-room : goal.put_unknown-requires-clause-room
 put_unknown-requires-clause-room c = omega (arith, ap length (c.put.ensures ∙ ap (λ (old : List ℕ). old ++ c.header_of-header.result.now) c.clear.ensures), c.header_of-header.ensures.short)
@@ -49,7 +49,7 @@ returns-in-Pin c =
     let side = plan_kind plan in
     let row = pin.plan_row c.in-Pin.plan in
     let text = pin.plan_text c.in-Pin.plan in
-    c.finish-in-Pin.ensures
+    c.finish_cached.ensures
     ∙ ap (λ (old : List ℕ). old ++ answer m row text c.args.granted.now)
     (c.put.ensures ∙ ap (λ (old : List ℕ). old ++ c.header_of-header.result.now) c.clear.ensures ∙ c.header_of-header.ensures.header)
     ∙ sym (planned_answer_is m side message c.args.granted.now row text plan.planned c.requires.plan.planned (ap planned_row c.in-Pin.is) (ap planned_text c.in-Pin.is))
