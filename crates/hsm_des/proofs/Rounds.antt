@@ -1,19 +1,19 @@
--- A round on words: the expanded half, the merged tables, and the key's parts.
-use Rattle.std.proofs.Common.{◌≡◌, ℕ, zero, suc, ◌+◌, ◌-◌, ◌*◌, ◌/◌, ◌%◌, ◌^◌, ◌<◌, ◌≤◌, Bool, List, [], ◌∷◌, ◌++◌, length, length-append, length-drop, map, reverse, take, drop, bit_and, bit_or, bit_xor, refl, sym, ap, ap₂, ◌∙◌, arith}
-use lib.Bits.{xor_zero_l, or_shifted_r}
+-- A round on words: a half in wide form, the merged tables, and the key's parts.
+use Rattle.std.proofs.Common.{◌≡◌, ℕ, zero, suc, ◌+◌, ◌-◌, ◌*◌, ◌/◌, ◌%◌, ◌^◌, ◌<◌, ◌≤◌, Bool, List, [], ◌∷◌, ◌++◌, length, length-drop, map, reverse, take, drop, bit_and, bit_or, bit_xor, refl, sym, ap, ap₂, ◌∙◌, arith}
+use lib.Bits.{xor_zero_l, xor_assoc, xor_comm, or_shifted_r}
 use Rattle.std.proofs.lemmas.Nat.{or_shifted, and_mask, shr_high, mod_low, shl_whole}
 use Rattle.std.proofs.Math.Seq.{take-append-add}
 use Rattle.std.proofs.lemmas.List.{map-append, reverse-append}
-use Rattle.hsm_des.specs.Bits.{bits, number, xor_bit, xor_bits, pick}
+use Rattle.hsm_des.specs.Bits.{bits, number, xor_bits, pick}
 use Rattle.hsm_des.specs.Tables.{boxes, box_permutation, expansion, round_key_choice, left_shifts}
 use Rattle.hsm_des.specs.Des.{substitute, turned, keys_from}
 use Rattle.hsm_des.specs.Merged.{digit_alone, merged_entry}
-use Rattle.hsm_des.specs.Words.{key_places, round_key, key_word, key_part, round_key_word, word_of, word_places}
+use Rattle.hsm_des.specs.Words.{IsWide, half_of, half_places, wide_places, key_places, round_key, key_word, key_part, round_key_word, word_of, word_places}
 use Rattle.hsm_des.proofs.BitsLemmas.{bits-xor, length-bits, length-pick}
-use Rattle.hsm_des.proofs.WordLemmas.{bits-append, bits_mod, bits_cat, bits_number_at, take-bits, drop-bits, digits_so_far, digits_none, digits_more, digits_all, length-digits_so_far, length-digit_alone, number-pick-xor, pick-xor}
+use Rattle.hsm_des.proofs.WordLemmas.{joined_word, bits_mod, bits_cat, bits_number_at, take-bits, drop-bits, digits_so_far, digits_none, digits_more, digits_all, length-digits_so_far, length-digit_alone, number-pick-xor, pick-xor}
 use Rattle.hsm_des.proofs.Linear.{IsLinear, linear_same, linear_shr, linear_shl, linear_and, linear_xor, linear_pick, linear_after, at_powers, linear_same_at_powers}
 
--- ---- the expanded half
+-- ---- a half in wide form
 
 -- `half.rotate_right(1)`
 right_turned : (n : ℕ) → n < 2 ^ 32 → bits 32 (bit_or (n / 2 ^ 1) (n * 2 ^ 31 % 2 ^ 32)) ≡ turned 31 (bits 32 n)
@@ -35,134 +35,202 @@ left_turned n small =
     ∙ bits_cat 29 3 (n % 2 ^ 29) (n / 2 ^ 29) high
     ∙ ap₂ (λ (x y : List Bool). x ++ y) (bits_mod 29 n ∙ sym (drop-bits 3 29 n)) (sym (take-bits 3 29 n))
 
--- the sixes of E lie at the places of a round key's in the half turned right and left
-places_expand : (n : ℕ) → pick key_places (turned 31 (bits 32 n) ++ turned 3 (bits 32 n)) ≡ pick expansion (bits 32 n)
-unfolding bits key_places expansion
+-- `half.rotate_right(3)`
+turned_back : (n : ℕ) → n < 2 ^ 32 → bits 32 (bit_or (n / 2 ^ 3) (n * 2 ^ 29 % 2 ^ 32)) ≡ turned 29 (bits 32 n)
+turned_back n small =
+    let low : n * 2 ^ 29 % 2 ^ 32 ≡ n % 2 ^ 3 * 2 ^ 29 = omega arith in
+    let high : n / 2 ^ 3 < 2 ^ 29 = omega arith in
+    ap (λ k. bits 32 (bit_or (n / 2 ^ 3) k)) low
+    ∙ ap (bits 32) (or_shifted_r (n % 2 ^ 3) 29 (n / 2 ^ 3) high)
+    ∙ bits_cat 3 29 (n % 2 ^ 3) (n / 2 ^ 3) high
+    ∙ ap₂ (λ (x y : List Bool). x ++ y) (bits_mod 3 n ∙ sym (drop-bits 29 3 n)) (sym (take-bits 29 3 n))
+
+places_widen : (n : ℕ) → turned 31 (bits 32 n) ++ turned 3 (bits 32 n) ≡ pick wide_places (bits 32 n)
+unfolding bits wide_places
+places_widen n = refl
+
+-- the half turned right in the upper word, and turned left in the lower one
+pub wide_word : (n right left : ℕ) → n < 2 ^ 32 → right < 2 ^ 32 → left < 2 ^ 32
+    → right ≡ bit_or (n / 2 ^ 1) (n * 2 ^ 31 % 2 ^ 32) → left ≡ bit_or (n * 2 ^ 3 % 2 ^ 32) (n / 2 ^ 29)
+    → bits 64 (bit_or (right * 2 ^ 32 % 2 ^ 64) left) ≡ pick wide_places (bits 32 n)
+wide_word n right left small r l right_is left_is =
+    joined_word right left r l
+    ∙ ap₂ (λ (x y : List Bool). x ++ y)
+    (ap (bits 32) right_is ∙ right_turned n small) (ap (bits 32) left_is ∙ left_turned n small)
+    ∙ places_widen n
+
+places_narrow : (n : ℕ) → turned 29 (drop 32 (bits 64 n)) ≡ half_of n
+unfolding bits half_places
+places_narrow n = refl
+
+-- the lower word turned back
+pub narrow_word : (n : ℕ) → bits 32 (bit_or (bit_and n 4294967295 / 2 ^ 3) (bit_and n 4294967295 * 2 ^ 29 % 2 ^ 32)) ≡ half_of n
+narrow_word n =
+    let low : bit_and n 4294967295 ≡ n % 2 ^ 32 = and_mask n 32 in
+    turned_back (bit_and n 4294967295) (omega arith)
+    ∙ ap (turned 29) (ap (bits 32) low ∙ bits_mod 32 n ∙ sym (drop-bits 32 32 n))
+    ∙ places_narrow n
+
+places_back : (n : ℕ) → pick half_places (pick wide_places (bits 32 n)) ≡ bits 32 n
+unfolding bits half_places wide_places
+places_back n = refl
+
+-- a word holds the half whose wide form it is
+pub half_held : (word : ℕ) (half : List Bool) → length half ≡ 32 → bits 64 word ≡ pick wide_places half → half_of word ≡ half
+half_held word half len is =
+    let back = bits_number_at 32 half len in
+    ap (pick half_places) (is ∙ ap (pick wide_places) (sym back)) ∙ places_back (number half) ∙ back
+
+pub is_wide : (word : ℕ) (half : List Bool) → length half ≡ 32 → bits 64 word ≡ pick wide_places half → IsWide word
+is_wide word half len is = is ∙ ap (pick wide_places) (sym (half_held word half len is))
+
+same_length : (table : List ℕ) (x y : List Bool) → length (pick table x) ≡ length (pick table y)
+same_length table x y = length-pick table x ∙ sym (length-pick table y)
+
+both64 : (m n : ℕ) → length (bits 64 m) ≡ length (bits 64 n)
+both64 m n = length-bits 64 m ∙ sym (length-bits 64 n)
+
+pub half_of-xor : (m n : ℕ) → half_of (bit_xor m n) ≡ xor_bits (half_of m) (half_of n)
+half_of-xor m n = ap (pick half_places) (bits-xor 64 m n) ∙ pick-xor half_places (bits 64 m) (bits 64 n) (both64 m n)
+
+pub wide-xor : (m n : ℕ) → IsWide m → IsWide n → IsWide (bit_xor m n)
+wide-xor m n first second =
+    bits-xor 64 m n ∙ ap₂ xor_bits first second
+    ∙ sym (pick-xor wide_places (half_of m) (half_of n) (same_length half_places (bits 64 m) (bits 64 n)))
+    ∙ ap (pick wide_places) (sym (half_of-xor m n))
+
+-- in the wide form the sixes of E lie at the places of a round key's
+places_expand : (n : ℕ) → pick key_places (pick wide_places (half_of n)) ≡ pick expansion (half_of n)
+unfolding bits key_places wide_places half_places expansion
 places_expand n = refl
 
-xor_append : (a b c d : List Bool) → length a ≡ length b → xor_bits (a ++ c) (b ++ d) ≡ xor_bits a b ++ xor_bits c d
-xor_append [] [] c d same = refl
-xor_append [] (y ∷ b) c d same = absurd (omega arith)
-xor_append (x ∷ a) [] c d same = absurd (omega arith)
-xor_append (x ∷ a) (y ∷ b) c d same = ap (λ (bs : List Bool). xor_bit x y ∷ bs) (xor_append a b c d (omega arith))
-
 -- the half expanded and the key mixed in
-pub sixes_are : (n key : ℕ) → n < 2 ^ 32
-    → pick key_places
-    (bits 32 (bit_xor (bit_or (n / 2 ^ 1) (n * 2 ^ 31 % 2 ^ 32)) (key / 2 ^ 32))
-    ++ bits 32 (bit_xor (bit_or (n * 2 ^ 3 % 2 ^ 32) (n / 2 ^ 29)) (bit_and key 4294967295)))
-    ≡ xor_bits (pick expansion (bits 32 n)) (round_key key)
-sixes_are n key small =
-    let right = turned 31 (bits 32 n) in
-    let left = turned 3 (bits 32 n) in
-    let right_is = right_turned n small in
-    let left_is = left_turned n small in
-    let upper = bits 32 (key / 2 ^ 32) in
-    let lower = bits 32 (bit_and key 4294967295) in
-    let key_is : upper ++ lower ≡ bits 64 key =
-    sym (bits-append 32 32 key ∙ ap (λ (bs : List Bool). upper ++ bs) (sym (ap (bits 32) (and_mask key 32) ∙ bits_mod 32 key))) in
-    let len : length right ≡ 32 = ap length (sym right_is) ∙ length-bits 32 _ in
-    let len₂ : length left ≡ 32 = ap length (sym left_is) ∙ length-bits 32 _ in
-    let both : length (right ++ left) ≡ length (upper ++ lower) =
-    omega (arith, length-append right left, length-append upper lower, length-bits 32 (key / 2 ^ 32), length-bits 32 (bit_and key 4294967295)) in
-    ap (pick key_places)
-    (ap₂ (λ (x y : List Bool). x ++ y)
-    (bits-xor 32 _ (key / 2 ^ 32) ∙ ap (λ (bs : List Bool). xor_bits bs upper) right_is)
-    (bits-xor 32 _ (bit_and key 4294967295) ∙ ap (λ (bs : List Bool). xor_bits bs lower) left_is)
-    ∙ sym (xor_append right upper left lower (len ∙ sym (length-bits 32 (key / 2 ^ 32)))))
-    ∙ pick-xor key_places (right ++ left) (upper ++ lower) both
-    ∙ ap₂ xor_bits (places_expand n) (ap (pick key_places) key_is)
+pub sixes_are : (half key : ℕ) → IsWide half → pick key_places (bits 64 (bit_xor half key)) ≡ xor_bits (pick expansion (half_of half)) (round_key key)
+sixes_are half key wide =
+    ap (pick key_places) (bits-xor 64 half key)
+    ∙ pick-xor key_places (bits 64 half) (bits 64 key) (both64 half key)
+    ∙ ap (λ (bs : List Bool). xor_bits bs (round_key key)) (ap (pick key_places) wide ∙ places_expand half)
 
 -- ---- the merged tables
 
-abbrev mixed_so_far : ℕ → List Bool → ℕ
-mixed_so_far i x = number (pick box_permutation (digits_so_far i x))
+-- P of a list of bits, in wide form
+abbrev mixed_of : List Bool → ℕ
+mixed_of x = number (pick wide_places (pick box_permutation x))
 
-mixed_none : (x : List Bool) → mixed_so_far 0 x ≡ 0
-unfolding box_permutation
-mixed_none x = ap (λ (bs : List Bool). number (pick box_permutation bs)) (digits_none x)
+mixed-xor : (x y : List Bool) → length x ≡ length y → mixed_of (xor_bits x y) ≡ bit_xor (mixed_of x) (mixed_of y)
+mixed-xor x y same =
+    ap (λ (bs : List Bool). number (pick wide_places bs)) (pick-xor box_permutation x y same)
+    ∙ number-pick-xor wide_places (pick box_permutation x) (pick box_permutation y) (same_length box_permutation x y)
+
+abbrev pub mixed_so_far : ℕ → List Bool → ℕ
+mixed_so_far i x = number (pick wide_places (pick box_permutation (digits_so_far i x)))
+
+pub mixed_none : (x : List Bool) → mixed_so_far 0 x ≡ 0
+unfolding box_permutation wide_places
+mixed_none x = ap mixed_of (digits_none x)
 
 -- one more box
-mixed_more : (i m n : ℕ) (x : List Bool) → i < 8 → m ≡ mixed_so_far i x → bits 6 n ≡ take 6 (drop (6 * i) x)
+pub mixed_more : (i m n : ℕ) (x : List Bool) → i < 8 → m ≡ mixed_so_far i x → bits 6 n ≡ take 6 (drop (6 * i) x)
     → bit_xor m (merged_entry i n) ≡ mixed_so_far (i + 1) x
 unfolding merged_entry
 mixed_more i m n x there before six =
     let same : length (digits_so_far i x) ≡ length (digit_alone i (take 6 (drop (6 * i) x))) =
     length-digits_so_far i x (omega arith) ∙ sym (length-digit_alone i (take 6 (drop (6 * i) x)) there) in
-    ap₂ bit_xor before (ap (λ (bs : List Bool). number (pick box_permutation (digit_alone i bs))) six)
-    ∙ sym (ap (λ (bs : List Bool). number (pick box_permutation bs)) (digits_more i x there)
-    ∙ number-pick-xor box_permutation (digits_so_far i x) (digit_alone i (take 6 (drop (6 * i) x))) same)
+    ap₂ bit_xor before (ap (λ (bs : List Bool). mixed_of (digit_alone i bs)) six)
+    ∙ sym (ap mixed_of (digits_more i x there)
+    ∙ mixed-xor (digits_so_far i x) (digit_alone i (take 6 (drop (6 * i) x))) same)
 
--- `word >> b & 63`, six bits of 32
-six_in_word : (a b n : ℕ) → a + (6 + b) ≡ 32 → bits 6 (bit_and (n / 2 ^ b) 63) ≡ take 6 (drop a (bits 32 n))
+length-wide : (x : List Bool) → length (pick wide_places x) ≡ 64
+unfolding wide_places
+length-wide x = length-pick wide_places x
+
+-- all eight: the wide form of P of the digits
+pub mixed_all : (word : ℕ) (x : List Bool) → word ≡ mixed_so_far 8 x → bits 64 word ≡ pick wide_places (pick box_permutation (substitute boxes x))
+mixed_all word x is =
+    ap (bits 64) is ∙ bits_number_at 64 (pick wide_places (pick box_permutation (digits_so_far 8 x))) (length-wide (pick box_permutation (digits_so_far 8 x)))
+    ∙ ap (λ (bs : List Bool). pick wide_places (pick box_permutation bs)) (digits_all x)
+
+-- `word >> b & 63`, six bits of 64
+six_in_word : (a b n : ℕ) → a + (6 + b) ≡ 64 → bits 6 (bit_and (n / 2 ^ b) 63) ≡ take 6 (drop a (bits 64 n))
 six_in_word a b n sum =
     ap (bits 6) (and_mask (n / 2 ^ b) 6) ∙ bits_mod 6 (n / 2 ^ b)
     ∙ sym (ap (λ (w : ℕ). take 6 (drop a (bits w n))) (sym sum)
     ∙ ap (take 6) (drop-bits a (6 + b) n)
     ∙ take-bits 6 b n)
 
-place0 : (u t : ℕ) → take 6 (drop 0 (bits 32 u)) ≡ take 6 (drop 0 (pick key_places (bits 32 u ++ bits 32 t)))
+place0 : (n : ℕ) → take 6 (drop 0 (bits 64 n)) ≡ take 6 (drop 0 (pick key_places (bits 64 n)))
 unfolding bits key_places
-place0 u t = refl
+place0 n = refl
 
-place1 : (u t : ℕ) → take 6 (drop 0 (bits 32 t)) ≡ take 6 (drop 6 (pick key_places (bits 32 u ++ bits 32 t)))
+place1 : (n : ℕ) → take 6 (drop 32 (bits 64 n)) ≡ take 6 (drop 6 (pick key_places (bits 64 n)))
 unfolding bits key_places
-place1 u t = refl
+place1 n = refl
 
-place2 : (u t : ℕ) → take 6 (drop 8 (bits 32 u)) ≡ take 6 (drop 12 (pick key_places (bits 32 u ++ bits 32 t)))
+place2 : (n : ℕ) → take 6 (drop 8 (bits 64 n)) ≡ take 6 (drop 12 (pick key_places (bits 64 n)))
 unfolding bits key_places
-place2 u t = refl
+place2 n = refl
 
-place3 : (u t : ℕ) → take 6 (drop 8 (bits 32 t)) ≡ take 6 (drop 18 (pick key_places (bits 32 u ++ bits 32 t)))
+place3 : (n : ℕ) → take 6 (drop 40 (bits 64 n)) ≡ take 6 (drop 18 (pick key_places (bits 64 n)))
 unfolding bits key_places
-place3 u t = refl
+place3 n = refl
 
-place4 : (u t : ℕ) → take 6 (drop 16 (bits 32 u)) ≡ take 6 (drop 24 (pick key_places (bits 32 u ++ bits 32 t)))
+place4 : (n : ℕ) → take 6 (drop 16 (bits 64 n)) ≡ take 6 (drop 24 (pick key_places (bits 64 n)))
 unfolding bits key_places
-place4 u t = refl
+place4 n = refl
 
-place5 : (u t : ℕ) → take 6 (drop 16 (bits 32 t)) ≡ take 6 (drop 30 (pick key_places (bits 32 u ++ bits 32 t)))
+place5 : (n : ℕ) → take 6 (drop 48 (bits 64 n)) ≡ take 6 (drop 30 (pick key_places (bits 64 n)))
 unfolding bits key_places
-place5 u t = refl
+place5 n = refl
 
-place6 : (u t : ℕ) → take 6 (drop 24 (bits 32 u)) ≡ take 6 (drop 36 (pick key_places (bits 32 u ++ bits 32 t)))
+place6 : (n : ℕ) → take 6 (drop 24 (bits 64 n)) ≡ take 6 (drop 36 (pick key_places (bits 64 n)))
 unfolding bits key_places
-place6 u t = refl
+place6 n = refl
 
-place7 : (u t : ℕ) → take 6 (drop 24 (bits 32 t)) ≡ take 6 (drop 42 (pick key_places (bits 32 u ++ bits 32 t)))
+place7 : (n : ℕ) → take 6 (drop 56 (bits 64 n)) ≡ take 6 (drop 42 (pick key_places (bits 64 n)))
 unfolding bits key_places
-place7 u t = refl
+place7 n = refl
 
--- the eight look-ups in the words that hold the sixes
-unfoldable pub mixed : (u t : ℕ) → ℕ
-mixed u t =
+-- an operand in front goes on in front
+in_front : (first m p q : ℕ) → m ≡ bit_xor first p → bit_xor m q ≡ bit_xor first (bit_xor p q)
+in_front first m p q is = ap (λ (k : ℕ). bit_xor k q) is ∙ xor_assoc first p q
+
+-- the eight look-ups in the word that holds the sixes, the last one first
+unfoldable pub mixed : ℕ → ℕ
+mixed n =
     bit_xor
     (bit_xor
     (bit_xor
     (bit_xor
     (bit_xor
     (bit_xor
-    (bit_xor (merged_entry 0 (bit_and (u / 2 ^ 26) 63)) (merged_entry 1 (bit_and (t / 2 ^ 26) 63)))
-    (merged_entry 2 (bit_and (u / 2 ^ 18) 63)))
-    (merged_entry 3 (bit_and (t / 2 ^ 18) 63)))
-    (merged_entry 4 (bit_and (u / 2 ^ 10) 63)))
-    (merged_entry 5 (bit_and (t / 2 ^ 10) 63)))
-    (merged_entry 6 (bit_and (u / 2 ^ 2) 63)))
-    (merged_entry 7 (bit_and (t / 2 ^ 2) 63))
+    (bit_xor (merged_entry 7 (bit_and (n / 2 ^ 2) 63)) (merged_entry 0 (bit_and (n / 2 ^ 58) 63)))
+    (merged_entry 1 (bit_and (n / 2 ^ 26) 63)))
+    (merged_entry 2 (bit_and (n / 2 ^ 50) 63)))
+    (merged_entry 3 (bit_and (n / 2 ^ 18) 63)))
+    (merged_entry 4 (bit_and (n / 2 ^ 42) 63)))
+    (merged_entry 5 (bit_and (n / 2 ^ 10) 63)))
+    (merged_entry 6 (bit_and (n / 2 ^ 34) 63))
 
-pub mixed-is : (u t : ℕ) → mixed u t ≡ number (pick box_permutation (substitute boxes (pick key_places (bits 32 u ++ bits 32 t))))
+pub mixed-is : (n : ℕ) → mixed n ≡ mixed_so_far 8 (pick key_places (bits 64 n))
 unfolding mixed
-mixed-is u t =
-    let x = pick key_places (bits 32 u ++ bits 32 t) in
-    let m0 = sym (xor_zero_l _) ∙ mixed_more 0 0 (bit_and (u / 2 ^ 26) 63) x (omega arith) (sym (mixed_none x)) (six_in_word 0 26 u (omega arith) ∙ place0 u t) in
-    let m1 = mixed_more 1 _ (bit_and (t / 2 ^ 26) 63) x (omega arith) m0 (six_in_word 0 26 t (omega arith) ∙ place1 u t) in
-    let m2 = mixed_more 2 _ (bit_and (u / 2 ^ 18) 63) x (omega arith) m1 (six_in_word 8 18 u (omega arith) ∙ place2 u t) in
-    let m3 = mixed_more 3 _ (bit_and (t / 2 ^ 18) 63) x (omega arith) m2 (six_in_word 8 18 t (omega arith) ∙ place3 u t) in
-    let m4 = mixed_more 4 _ (bit_and (u / 2 ^ 10) 63) x (omega arith) m3 (six_in_word 16 10 u (omega arith) ∙ place4 u t) in
-    let m5 = mixed_more 5 _ (bit_and (t / 2 ^ 10) 63) x (omega arith) m4 (six_in_word 16 10 t (omega arith) ∙ place5 u t) in
-    let m6 = mixed_more 6 _ (bit_and (u / 2 ^ 2) 63) x (omega arith) m5 (six_in_word 24 2 u (omega arith) ∙ place6 u t) in
-    let m7 = mixed_more 7 _ (bit_and (t / 2 ^ 2) 63) x (omega arith) m6 (six_in_word 24 2 t (omega arith) ∙ place7 u t) in
-    m7 ∙ ap (λ (bs : List Bool). number (pick box_permutation bs)) (digits_all x)
+mixed-is n =
+    let x = pick key_places (bits 64 n) in
+    let last = merged_entry 7 (bit_and (n / 2 ^ 2) 63) in
+    let m0 = sym (xor_zero_l _) ∙ mixed_more 0 0 (bit_and (n / 2 ^ 58) 63) x (omega arith) (sym (mixed_none x)) (six_in_word 0 58 n (omega arith) ∙ place0 n) in
+    let m1 = mixed_more 1 _ (bit_and (n / 2 ^ 26) 63) x (omega arith) m0 (six_in_word 32 26 n (omega arith) ∙ place1 n) in
+    let m2 = mixed_more 2 _ (bit_and (n / 2 ^ 50) 63) x (omega arith) m1 (six_in_word 8 50 n (omega arith) ∙ place2 n) in
+    let m3 = mixed_more 3 _ (bit_and (n / 2 ^ 18) 63) x (omega arith) m2 (six_in_word 40 18 n (omega arith) ∙ place3 n) in
+    let m4 = mixed_more 4 _ (bit_and (n / 2 ^ 42) 63) x (omega arith) m3 (six_in_word 16 42 n (omega arith) ∙ place4 n) in
+    let m5 = mixed_more 5 _ (bit_and (n / 2 ^ 10) 63) x (omega arith) m4 (six_in_word 48 10 n (omega arith) ∙ place5 n) in
+    let m6 = mixed_more 6 _ (bit_and (n / 2 ^ 34) 63) x (omega arith) m5 (six_in_word 24 34 n (omega arith) ∙ place6 n) in
+    let m7 = mixed_more 7 _ (bit_and (n / 2 ^ 2) 63) x (omega arith) m6 (six_in_word 56 2 n (omega arith) ∙ place7 n) in
+    let f1 = in_front last _ _ (merged_entry 1 (bit_and (n / 2 ^ 26) 63)) refl in
+    let f2 = in_front last _ _ (merged_entry 2 (bit_and (n / 2 ^ 50) 63)) f1 in
+    let f3 = in_front last _ _ (merged_entry 3 (bit_and (n / 2 ^ 18) 63)) f2 in
+    let f4 = in_front last _ _ (merged_entry 4 (bit_and (n / 2 ^ 42) 63)) f3 in
+    let f5 = in_front last _ _ (merged_entry 5 (bit_and (n / 2 ^ 10) 63)) f4 in
+    let f6 = in_front last _ _ (merged_entry 6 (bit_and (n / 2 ^ 34) 63)) f5 in
+    f6 ∙ xor_comm last _ ∙ m7
 
 -- ---- the key's parts
 

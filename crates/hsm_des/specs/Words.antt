@@ -1,5 +1,5 @@
--- DES on words: where the bits of a round key lie in a word of 64, what parts of C and D give to it, and the exchange of bits between two words.
-use Rattle.std.specs.Prelude.{ℕ, ◌-◌, ◌*◌, ◌/◌, ◌%◌, ◌^◌, Bool, List, [], ◌∷◌}
+-- DES on words: where the bits of a round key and of a half lie in a word of 64, what parts of C and D give to a round key, and the exchange of bits between two words.
+use Rattle.std.specs.Prelude.{◌≡◌, ℕ, ◌-◌, ◌*◌, ◌/◌, ◌%◌, ◌^◌, Bool, List, [], ◌∷◌}
 use Rattle.std.specs.Int.RustNames.{bit_and, bit_xor}
 use Rattle.hsm_des.specs.Bits.{bits, number, pick}
 
@@ -13,6 +13,28 @@ key_places =
 -- the round key that a word holds
 abbrev pub round_key : ℕ → List Bool
 round_key word = pick key_places (bits 64 word)
+
+-- the places of the 64 bits of a half's wide form in the half: turned one place to the right, then three to the left, so that the sixes of E lie where a round key's word has its own
+unfoldable pub wide_places : List ℕ
+wide_places =
+    32 ∷ 1 ∷ 2 ∷ 3 ∷ 4 ∷ 5 ∷ 6 ∷ 7 ∷ 8 ∷ 9 ∷ 10 ∷ 11 ∷ 12 ∷ 13 ∷ 14 ∷ 15 ∷
+    16 ∷ 17 ∷ 18 ∷ 19 ∷ 20 ∷ 21 ∷ 22 ∷ 23 ∷ 24 ∷ 25 ∷ 26 ∷ 27 ∷ 28 ∷ 29 ∷ 30 ∷ 31 ∷
+    4 ∷ 5 ∷ 6 ∷ 7 ∷ 8 ∷ 9 ∷ 10 ∷ 11 ∷ 12 ∷ 13 ∷ 14 ∷ 15 ∷ 16 ∷ 17 ∷ 18 ∷ 19 ∷
+    20 ∷ 21 ∷ 22 ∷ 23 ∷ 24 ∷ 25 ∷ 26 ∷ 27 ∷ 28 ∷ 29 ∷ 30 ∷ 31 ∷ 32 ∷ 1 ∷ 2 ∷ 3 ∷ []
+
+-- the places of a half's 32 bits in the lower word of its wide form
+unfoldable pub half_places : List ℕ
+half_places =
+    62 ∷ 63 ∷ 64 ∷ 33 ∷ 34 ∷ 35 ∷ 36 ∷ 37 ∷ 38 ∷ 39 ∷ 40 ∷ 41 ∷ 42 ∷ 43 ∷ 44 ∷ 45 ∷
+    46 ∷ 47 ∷ 48 ∷ 49 ∷ 50 ∷ 51 ∷ 52 ∷ 53 ∷ 54 ∷ 55 ∷ 56 ∷ 57 ∷ 58 ∷ 59 ∷ 60 ∷ 61 ∷ []
+
+-- the half that a word holds in wide form
+abbrev pub half_of : ℕ → List Bool
+half_of word = pick half_places (bits 64 word)
+
+-- the word is the wide form of the half that it holds: its upper bits say the same half as its lower ones
+abbrev pub IsWide : ℕ → Type 0
+IsWide word = bits 64 word ≡ pick wide_places (half_of word)
 
 -- PC-2 with each bit at its place in the word (57 is past the end of the 56 bits: a zero)
 unfoldable pub round_key_word : List ℕ

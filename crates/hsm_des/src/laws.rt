@@ -24,7 +24,7 @@ pub fn encrypt_by_permutations(key: [u8; 8], block: u64) -> u64
     permutations::encrypt(key, block)
 }
 
-/// Each of the 512 entries of the merged tables is P of one digit among zeros.
+/// Each of the 512 entries of the merged tables is P of one digit among zeros, in the wide form of a half.
 pub fn merged_entries()
     ensures { (i v : ℕ) → i < 8 → v < 64
         → slice_index (slice_index_or MERGED i []) v ≡ merged_entry i v }

@@ -9,6 +9,7 @@ use crate::merged::merged_entry;
 use crate::tables::{
     EXPANSION, FINAL_PERMUTATION, INITIAL_PERMUTATION, KEY_CHOICE, LEFT_SHIFTS, ROUND_KEY_CHOICE,
 };
+use crate::words::narrow;
 
 /// Bit i of the result, of N bits, is bit `table[i]` of x, of `width` bits. Bits are counted from 1,
 /// the most significant one.
@@ -93,9 +94,9 @@ fn cipher_function(half: u32, key: u64) -> u32
     let sixes = expand(half) ^ key;
     let mut out = 0;
     for i in 0..8 {
-        out ^= merged_entry(i, (sixes >> (42 - 6 * i) & 63) as u32);
+        out ^= merged_entry(i, sixes >> (42 - 6 * i) & 63);
     }
-    out
+    narrow(out)
 }
 
 fn after_rounds(keys: &[u64; 16], left: u32, right: u32) -> (u32, u32)

@@ -1,11 +1,11 @@
 //! DES on words of 32 and 64 bits: each permutation of a block by five exchanges of bits between its
-//! halves, the S boxes merged with P, and PC-2 by tables.
+//! halves, the rounds on halves in wide form with the S boxes merged with P, and PC-2 by tables.
 
 ghost use Rattle.std.specs.Prelude.{◌≡◌, ◌+◌, ◌-◌, ◌*◌, ◌^◌, ◌<◌, ◌≤◌, ◌++◌, map, reverse, length, take, drop};
 ghost use Rattle.hsm_des.specs.Bits.{bits, number, pick};
 ghost use Rattle.hsm_des.specs.Des.{cipher_function, Halves, after_rounds, cipher, turned, round_keys, key_bits, encrypted, decrypted};
 ghost use Rattle.hsm_des.specs.Tables.{initial_permutation, final_permutation, key_choice, round_key_choice};
-ghost use Rattle.hsm_des.specs.Words.{lower_exchanged, round_key, upper_exchanged, word_of};
+ghost use Rattle.hsm_des.specs.Words.{IsWide, half_of, lower_exchanged, round_key, upper_exchanged, wide_places, word_of};
 
 use crate::key_parts::key_part;
 use crate::merged::merged_entry;
@@ -85,26 +85,69 @@ fn choose_round_key(c: u64, d: u64) -> u64
         ^ key_part(7, d & 127)
 }
 
-// f (R, K): the half turned right and left has the sixes of E at the places where the word has its key bits.
+// The wide form of a half: turned one place to the right in the upper word, three to the left in the lower.
 #[inline(always)]
-fn cipher_function(half: u32, key: u64) -> u32
-    ensures { bits 32 result ≡ cipher_function (bits 32 half) (round_key key) }
+fn wide(half: u32) -> u64
+    ensures { bits 64 result ≡ pick wide_places (bits 32 half) }
 {
-    let odd = half.rotate_right(1) ^ (key >> 32) as u32;
-    let even = half.rotate_left(3) ^ (key & 0xFFFF_FFFF) as u32;
-    merged_entry(0, odd >> 26 & 63)
-        ^ merged_entry(1, even >> 26 & 63)
-        ^ merged_entry(2, odd >> 18 & 63)
-        ^ merged_entry(3, even >> 18 & 63)
-        ^ merged_entry(4, odd >> 10 & 63)
-        ^ merged_entry(5, even >> 10 & 63)
-        ^ merged_entry(6, odd >> 2 & 63)
-        ^ merged_entry(7, even >> 2 & 63)
+    u64::from(half.rotate_right(1)) << 32 | u64::from(half.rotate_left(3))
 }
 
-fn after_rounds(keys: &[u64; 16], left: u32, right: u32) -> (u32, u32)
-    ensures { record { left = bits 32 result.0; right = bits 32 result.1 }
-        ≡ after_rounds (map round_key keys.now) (record { left = bits 32 left; right = bits 32 right }) }
+/// The half that a word holds in wide form.
+#[inline(always)]
+pub fn narrow(word: u64) -> u32
+    ensures { bits 32 result ≡ half_of word }
+{
+    ((word & 0xFFFF_FFFF) as u32).rotate_right(3)
+}
+
+// IP, and the halves of what it gives, in wide form.
+#[inline(always)]
+fn wide_initial(block: u64) -> (u64, u64)
+    ensures left { half_of result.0 ≡ take 32 (pick initial_permutation (bits 64 block)) }
+    ensures right { half_of result.1 ≡ drop 32 (pick initial_permutation (bits 64 block)) }
+    ensures left_wide { IsWide result.0 }
+    ensures right_wide { IsWide result.1 }
+{
+    let (left, right) = initial(block);
+    (wide(left), wide(right))
+}
+
+// The inverse of IP on halves in wide form.
+#[inline(always)]
+fn wide_last(left: u64, right: u64) -> u64
+    ensures { result ≡ number (pick final_permutation (half_of left ++ half_of right)) }
+{
+    last(narrow(left), narrow(right))
+}
+
+// f (R, K), in wide form: there the sixes of E are at the places where the word of a round key has its bits.
+// The sixes that need the least shifting come first, since their entries are there the soonest.
+#[inline(always)]
+fn cipher_function(half: u64, key: u64) -> u64
+    requires { IsWide half }
+    ensures half { half_of result ≡ cipher_function (half_of half) (round_key key) }
+    ensures wide { IsWide result }
+{
+    let sixes = half ^ key;
+    merged_entry(7, sixes >> 2 & 63)
+        ^ merged_entry(0, sixes >> 58 & 63)
+        ^ merged_entry(1, sixes >> 26 & 63)
+        ^ merged_entry(2, sixes >> 50 & 63)
+        ^ merged_entry(3, sixes >> 18 & 63)
+        ^ merged_entry(4, sixes >> 42 & 63)
+        ^ merged_entry(5, sixes >> 10 & 63)
+        ^ merged_entry(6, sixes >> 34 & 63)
+}
+
+// The rounds, on halves in wide form.
+fn after_rounds(keys: &[u64; 16], left: u64, right: u64) -> (u64, u64)
+    requires left { IsWide left }
+    requires right { IsWide right }
+    ensures halves { record { left = half_of result.0; right = half_of result.1 }
+        ≡ after_rounds (map round_key keys.now) (record { left = half_of left; right = half_of right }) }
+    ensures left_wide { IsWide result.0 }
+    ensures right_wide { IsWide result.1 }
 {
     let mut left = left;
     let mut right = right;
@@ -117,9 +160,13 @@ fn after_rounds(keys: &[u64; 16], left: u32, right: u32) -> (u32, u32)
 }
 
 // The rounds with the keys in reverse.
-fn back_rounds(keys: &[u64; 16], left: u32, right: u32) -> (u32, u32)
-    ensures { record { left = bits 32 result.0; right = bits 32 result.1 }
-        ≡ after_rounds (map round_key (reverse keys.now)) (record { left = bits 32 left; right = bits 32 right }) }
+fn back_rounds(keys: &[u64; 16], left: u64, right: u64) -> (u64, u64)
+    requires left { IsWide left }
+    requires right { IsWide right }
+    ensures halves { record { left = half_of result.0; right = half_of result.1 }
+        ≡ after_rounds (map round_key (reverse keys.now)) (record { left = half_of left; right = half_of right }) }
+    ensures left_wide { IsWide result.0 }
+    ensures right_wide { IsWide result.1 }
 {
     let mut left = left;
     let mut right = right;
@@ -204,18 +251,18 @@ impl Schedule {
 pub fn encrypt(s: &Schedule, block: u64) -> u64
     ensures { result ≡ encrypted s.now block }
 {
-    let (left, right) = initial(block);
+    let (left, right) = wide_initial(block);
     let (last_left, last_right) = after_rounds(&s.keys, left, right);
-    last(last_right, last_left)
+    wide_last(last_right, last_left)
 }
 
 /// Deciphers a block under the key of the schedule ("Deciphering").
 pub fn decrypt(s: &Schedule, block: u64) -> u64
     ensures { result ≡ decrypted s.now block }
 {
-    let (left, right) = initial(block);
+    let (left, right) = wide_initial(block);
     let (last_left, last_right) = back_rounds(&s.keys, left, right);
-    last(last_right, last_left)
+    wide_last(last_right, last_left)
 }
 
 /// Enciphers under the first key, deciphers under the second and enciphers under the third.
@@ -229,11 +276,11 @@ pub fn encrypt_decrypt_encrypt(
 ) -> u64
     ensures { result ≡ encrypted third.now (decrypted second.now (encrypted first.now block)) }
 {
-    let (left, right) = initial(block);
+    let (left, right) = wide_initial(block);
     let (left1, right1) = after_rounds(&first.keys, left, right);
     let (left2, right2) = back_rounds(&second.keys, right1, left1);
     let (left3, right3) = after_rounds(&third.keys, right2, left2);
-    last(right3, left3)
+    wide_last(right3, left3)
 }
 
 /// Deciphers under the first key, enciphers under the second and deciphers under the third.
@@ -247,9 +294,9 @@ pub fn decrypt_encrypt_decrypt(
 ) -> u64
     ensures { result ≡ decrypted third.now (encrypted second.now (decrypted first.now block)) }
 {
-    let (left, right) = initial(block);
+    let (left, right) = wide_initial(block);
     let (left1, right1) = back_rounds(&first.keys, left, right);
     let (left2, right2) = after_rounds(&second.keys, right1, left1);
     let (left3, right3) = back_rounds(&third.keys, right2, left2);
-    last(right3, left3)
+    wide_last(right3, left3)
 }

@@ -9,9 +9,9 @@ use Rattle.hsm_des.proofs.words.decrypt.Goals as goal
 pub returns : goal.returns
 unfolding decrypted cipher
 returns c =
-    c.last.ensures
+    c.wide_last.ensures
     ∙ ap (λ (h : Halves). number (pick final_permutation (joined (exchanged h))))
-    (c.back_rounds-last_left.ensures
+    (c.back_rounds-last_left.ensures.halves
     ∙ ap₂ (λ (keys : List (List Bool)) (h : Halves). after_rounds keys h)
     (map_reverse round_key c.s.inside.keys ∙ ap reverse c.s.view_is)
-    (ap₂ (λ (l r : List Bool). record { left = l; right = r }) c.initial-left.ensures.left c.initial-left.ensures.right))
+    (ap₂ (λ (l r : List Bool). record { left = l; right = r }) c.wide_initial-left.ensures.left c.wide_initial-left.ensures.right))

@@ -7,8 +7,8 @@ use Rattle.hsm_des.proofs.words.encrypt.Goals as goal
 pub returns : goal.returns
 unfolding encrypted cipher
 returns c =
-    c.last.ensures
+    c.wide_last.ensures
     ∙ ap (λ (h : Halves). number (pick final_permutation (joined (exchanged h))))
-    (c.after_rounds-last_left.ensures
+    (c.after_rounds-last_left.ensures.halves
     ∙ ap₂ (λ (keys : List (List Bool)) (h : Halves). after_rounds keys h) c.s.view_is
-    (ap₂ (λ (l r : List Bool). record { left = l; right = r }) c.initial-left.ensures.left c.initial-left.ensures.right))
+    (ap₂ (λ (l r : List Bool). record { left = l; right = r }) c.wide_initial-left.ensures.left c.wide_initial-left.ensures.right))
