@@ -103,6 +103,20 @@ impl Booked {
     }
 }
 
+/// A place in the queue at a desk. A thread that stands at its head may make several entries while those of others wait.
+/// It guards nothing: at a place that it does not hold, each booking queues up for itself.
+#[derive(Drop)]
+pub struct Queue<'d> {
+    head: Option<MutexGuard<'d, ()>>,
+}
+
+impl<'d> Queue<'d> {
+    /// No place yet: each booking queues up for itself.
+    pub fn none() -> Queue<'d> {
+        Queue { head: None }
+    }
+}
+
 impl InSlot {
     // Steps the ledger, and keeps of what the entry is made. The answer is put in the place of `granted`.
     fn step(&mut self, moment: u64, ask: &Ask, granted: &mut Granted)
@@ -252,19 +266,26 @@ impl Desk {
         self.board.shared.fetch_add::<Enter>(seat, SERVED, 1)
     }
 
-    // Takes the lock of the queue. A thread holds it for less than a microsecond, if the system does not stop it meanwhile:
-    // looking again for some microseconds costs less than sleeping and being woken.
-    fn queue_up<R: Wait>(&self, rt: &R) -> MutexGuard<'_, ()> {
+    // Takes the lock of the queue. A thread holds it for some microseconds at most, if the system does not stop it meanwhile:
+    // looking again for so long costs less than sleeping and being woken.
+    fn head_of_queue<R: Wait>(&self, rt: &R) -> MutexGuard<'_, ()> {
         for _ in 0..LOOKS {
-            if let Some(queued) = self.queue.try_lock() {
-                return queued;
+            if let Some(head) = self.queue.try_lock() {
+                return head;
             }
             spin_loop();
         }
         self.queue.lock(rt)
     }
 
-    /// Makes one entry. It waits for its turn, asks the clock once while it has it, and takes no memory.
+    /// Waits until no other thread stands at the head of the queue. The place is left when it is dropped.
+    pub fn queue_up<R: Wait>(&self, rt: &R) -> Queue<'_> {
+        Queue {
+            head: Some(self.head_of_queue(rt)),
+        }
+    }
+
+    /// Makes one entry. It queues up and waits for its turn, asks the clock once while it has it, and takes no memory.
     /// It has no refusal of its own.
     pub fn book<C: Clock, R: Wait>(
         &self,
@@ -281,14 +302,16 @@ impl Desk {
         ensures moment { (c : List ℕ) → C.to_come clock.old ≡ Some c → (C.last clock.new ≡ tick c 0) × (C.to_come clock.new ≡ Some (after_now c)) }
     {
         let mut booked = Booked::nothing();
-        self.book_into(rt, pass, clock, ask, &mut booked);
+        self.book_into(rt, &Queue::none(), pass, clock, ask, &mut booked);
         booked
     }
 
-    /// [`Desk::book`] with what it answers put in the place of `booked`: an answer has 544 bytes, which are then moved nowhere.
+    /// [`Desk::book`] at a place in the queue, with what it answers put in the place of `booked`: an answer has 544 bytes, which
+    /// are then moved nowhere.
     pub fn book_into<C: Clock, R: Wait>(
         &self,
         rt: &R,
+        queue: &Queue<'_>,
         pass: &mut Pass,
         clock: &mut C,
         ask: &Ask,
@@ -301,13 +324,16 @@ impl Desk {
         ensures sound { Sound pass.new }
         ensures moment { (c : List ℕ) → C.to_come clock.old ≡ Some c → (C.last clock.new ≡ tick c 0) × (C.to_come clock.new ≡ Some (after_now c)) }
     {
-        let queued = self.queue_up(rt);
+        let alone = match queue.head {
+            Some(_) => None,
+            None => Some(self.head_of_queue(rt)),
+        };
         let ticket = self.draw(rt, &mut pass.seat);
         let mut held = self.take(rt, &mut pass.seat, ticket);
         let moment = clock.now();
         held.step(moment, ask, &mut booked.granted);
         booked.place = self.enter(&mut pass.seat, held, ticket);
-        drop(queued);
+        drop(alone);
     }
 
     /// Ends the desk. The answer is the number of all entries: at least as many as the pass has seen,

@@ -1,7 +1,7 @@
 //! Length framing: a message on a stream of bytes is its length in two bytes, high byte first, and then its bytes.
 #![tactic(auto)]
 
-ghost use Rattle.std.specs.Prelude.{◌≡◌, ◌+◌, ◌-◌, ◌^◌, ◌<◌, ◌≤◌, ◌++◌, [], length, take, min, IfOk, ℕ, List};
+ghost use Rattle.std.specs.Prelude.{◌≡◌, ◌+◌, ◌-◌, ◌^◌, ◌<◌, ◌≤◌, ◌++◌, [], length, take, drop, min, IfOk, ℕ, List};
 ghost use Rattle.arrayvec.specs.ArrayVec.{array_vec_len};
 ghost use Rattle.hsm_frame.specs.First.{BeginsWith};
 ghost use Rattle.hsm_frame.specs.Frames.{frame};
@@ -93,6 +93,31 @@ impl Frames {
             Ok(()) => count,
             Err(_) => unreachable!(),
         }
+    }
+
+    /// What the bytes held behind the first `from` of them begin with. Nothing changes, so that several messages may be lent at
+    /// once; [`Frames::skip`] removes them.
+    pub fn look(&self, from: usize) -> Next<'_>
+        requires { from ≤ length self.now.bytes }
+        ensures { IsAnswerFor (record self.now { bytes = drop from self.now.bytes }) result }
+    {
+        let at = self.start + from;
+        match first_frame(&self.buffer[at..], self.least) {
+            First::NotYet => Next::NotYet,
+            First::Short(count) => Next::Short(u64::from(count)),
+            First::Whole(count) => {
+                let from = at + 2;
+                Next::Message(&self.buffer[from..from + usize::from(count)])
+            }
+        }
+    }
+
+    /// Lets go of the first so many bytes held.
+    pub fn skip(&mut self, count: usize)
+        requires { count ≤ length self.old.bytes }
+        ensures { self.new ≡ record self.old { bytes = drop count self.old.bytes } }
+    {
+        self.start += count;
     }
 
     /// What the bytes held begin with. A message is removed from them and lent; nothing else changes.

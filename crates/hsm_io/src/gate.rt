@@ -7,6 +7,10 @@ pub trait Gate {
     /// The calls that it got, in order, where told.
     ghost calls: { Self → Option (List GateCall) };
 
+    /// Whether a call may keep the lane waiting for what other lanes do. Such a lane leaves the desk's queue before each
+    /// call; any other one may book several messages in one turn.
+    fn may_hold(&self) -> bool;
+
     /// The message was prepared, and is to be booked.
     fn before_book(&mut self, lane: u32, message: u64)
         ensures told { (c : List GateCall) → calls self.old ≡ Some c → calls self.new ≡ Some (c ++ before lane message ∷ []) };
@@ -22,6 +26,10 @@ pub struct OpenGate;
 
 impl Gate for OpenGate {
     ghost calls = { λ gate. None };
+
+    fn may_hold(&self) -> bool {
+        false
+    }
 
     fn before_book(&mut self, _lane: u32, _message: u64) {}
 

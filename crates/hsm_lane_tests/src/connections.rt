@@ -6,7 +6,7 @@ ghost use Rattle.hsm_session.specs.Plans.{least_for};
 
 use arrayvec::ArrayVec;
 use hsm_auth::{Ledger, Place};
-use hsm_desk::{Desk, Pass};
+use hsm_desk::{Booked, Desk, Pass};
 use hsm_frame::Frames;
 use hsm_io::{MemClock, MemLink, OpenGate};
 use hsm_laboratory::{Set, module_of};
@@ -15,6 +15,7 @@ use hsm_rows::Module;
 use hsm_session::{ConnEnd, Report, Tools, least_message, serve_link};
 use hsm_text::Reply;
 use std::alloc::{Alloc, AllocError, Global};
+use std::array;
 use std::process::Abort;
 use std::sync::Wait;
 use std::test::Fail;
@@ -66,11 +67,13 @@ pub(crate) fn tools_of(
         pass,
         clock: MemClock::new(moments),
         gate: OpenGate,
+        room: [0; 4096],
         frames,
         reply: Reply::new(),
         out: ArrayVec::new(),
         lane: 1,
         cache,
+        booked: array::from_fn(|_| Booked::nothing()),
     })
 }
 

@@ -65,6 +65,10 @@ struct Holding<'a> {
 impl<'a> Gate for Holding<'a> {
     ghost calls = { λ gate. None };
 
+    fn may_hold(&self) -> bool {
+        true
+    }
+
     fn before_book(&mut self, lane: u32, message: u64) {
         match (lane, message) {
             (0, 1) => self.progress.look_for(&self.progress.shown),

@@ -197,6 +197,10 @@ struct Meeting<'a> {
 impl<'a> Gate for Meeting<'a> {
     ghost calls = { λ gate. None };
 
+    fn may_hold(&self) -> bool {
+        true
+    }
+
     fn before_book(&mut self, _lane: u32, _message: u64) {}
 
     fn after_book(&mut self, _lane: u32, _message: u64) {

@@ -344,6 +344,19 @@ all_open m accept moments ports desk before now span number lanes opened is = re
       subst (λ (n : ℕ). IsNewLane m accept moments (before.connections port) k (seat desk span n k) lane) (sym opened.count) (opened.each k port lane at_port at_lane);
 }
 
+-- the door of the first lane is refused
+pub refused_first : (ports : List ℕ) (before after : DoorSide) (port : ℕ) (fault : LanesFault) → slice_get ports 0 ≡ Some port → before.asked ≡ []
+    → after.asked ≡ before.asked ++ port ∷ [] → IsRefused 0 port before after fault → AreRefused ports before after fault
+refused_first ports before after port Memory at_port none asks refused = tt
+refused_first ports before after port (Door lane) at_port none asks refused =
+    let asked : after.asked ≡ take 1 ports = asks ∙ ap (λ (front : List ℕ). front ++ port ∷ []) none ∙ sym (take_push 0 port ports at_port) in (
+      port,
+      subst (λ (n : ℕ). slice_get ports n ≡ Some port) (sym refused.0) at_port,
+      subst (λ (n : ℕ). after.asked ≡ take (n + 1) ports) (sym refused.0) asked,
+      refused.1,
+      refused.2,
+    )
+
 -- the door of the next lane is refused
 pub refused_next : (m : Module) (accept : ℕ) (moments : Option (List ℕ)) (ports : List ℕ) (desk : TableId) (before now after : DoorSide) (span number port : ℕ) (lanes : List LaneState) (fault : LanesFault)
     → OpenTo m accept moments ports desk before now span number lanes → slice_get ports number ≡ Some port → after.asked ≡ now.asked ++ port ∷ []

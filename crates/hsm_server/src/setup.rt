@@ -7,13 +7,14 @@ ghost use Rattle.hsm_server.specs.Lanes.{nothing_kept};
 use crate::lane::{Lane, LaneEnd};
 use crate::state::HasState;
 use arrayvec::ArrayVec;
-use hsm_desk::Pass;
+use hsm_desk::{Booked, Pass};
 use hsm_frame::Frames;
 use hsm_io::{Clock, Door, Gate};
 use hsm_lmk::KeyCache;
 use hsm_session::Tools;
 use hsm_text::Reply;
 use std::alloc::Global;
+use std::array;
 
 impl<D: Door + Send + Drop, C: Clock + Send + Drop, G: Gate + Send + Drop> Lane<D, C, G> {
     /// A lane that served no connection yet. All its memory is taken here: the frames, places for as many reports as it
@@ -67,11 +68,13 @@ impl<D: Door + Send + Drop, C: Clock + Send + Drop, G: Gate + Send + Drop> Lane<
                 pass,
                 clock,
                 gate,
+                room: [0; 4096],
                 frames,
                 reply: Reply::new(),
                 out: ArrayVec::new(),
                 lane: number,
                 cache,
+                booked: array::from_fn(|_| Booked::nothing()),
             },
             door,
             reports,

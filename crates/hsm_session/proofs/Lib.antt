@@ -22,3 +22,4 @@ pub mod Makings
 pub mod Gating
 pub mod Keeping
 pub mod Talking
+pub mod Batching

@@ -82,6 +82,21 @@ sends_more before after text rest more p s is =
 pub front_more : (before after : Option Traffic) (text more : List ℕ) → SendsFront before after text → SendsFront before after (text ++ more)
 front_more before after text more p = (p.0 ++ more, sends_more before after text p.0 more p.1)
 
+-- more of a text is written, behind what was left of its first part
+pub sends_on : (before mid after : Option Traffic) (text left more rest : List ℕ) → Sends before mid text left → Sends mid after (left ++ more) rest → Sends before after (text ++ more) rest
+sends_on before mid after text left more rest p q s is =
+    let a = p s is in
+    let b = q a.0 a.1 in (
+      b.0,
+      b.1,
+      a.2 ++ b.2,
+      exchanges_twice s a.0 b.0 [] a.2 [] b.2 a.3 b.3,
+      ap (λ (x : List ℕ). x ++ more) a.4 ∙ append_assoc a.2 left more ∙ ap (λ (x : List ℕ). a.2 ++ x) b.4 ∙ sym (append_assoc a.2 b.2 rest),
+    )
+
+pub front_on : (before mid after : Option Traffic) (text left more : List ℕ) → Sends before mid text left → SendsFront mid after (left ++ more) → SendsFront before after (text ++ more)
+front_on before mid after text left more p q = (q.0, sends_on before mid after text left more q.0 p q.1)
+
 -- the first messages framed, and one more
 frames_push : (messages : List (List ℕ)) (message rest : List ℕ) → flat_map frame messages ++ (frame message ++ rest) ≡ flat_map frame (messages ++ message ∷ []) ++ rest
 frames_push messages message rest =

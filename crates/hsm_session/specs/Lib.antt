@@ -8,3 +8,4 @@ pub mod Clear
 pub mod Cuts
 pub mod Connections
 pub mod Serving
+pub mod Batches

@@ -1,6 +1,7 @@
 //! What the module asks of the ledger and answers to messages, and runs of scripts.
 #![tactic(auto)]
 
+mod batch;
 mod clear;
 mod lane;
 mod laws;
@@ -13,6 +14,7 @@ mod serving;
 mod text;
 mod whole;
 
+pub use batch::BATCH;
 pub use clear::clear_in_runs;
 pub use laws::{cut_pieces_join, legal_runs, one_run};
 pub use lines::{Line, number_within, read_script};

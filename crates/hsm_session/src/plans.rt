@@ -43,6 +43,16 @@ pub struct Plan<'m> {
     planned: Planned<'m>,
 }
 
+impl<'m> Default for Plan<'m> {
+    fn default() -> Plan<'m> {
+        Plan {
+            kind: Place::Host,
+            message: &[],
+            planned: Planned::Unknown,
+        }
+    }
+}
+
 impl<'m> Plan<'m> {
     /// The message's ask.
     pub fn ask(&self) -> Ask

@@ -8,14 +8,13 @@ ghost use Rattle.hsm_session.specs.Lanes.{AreBytes, IsCacheOf, IsWaiting};
 ghost use Rattle.hsm_session.specs.Plans.{least_for};
 ghost use Rattle.hsm_session.specs.Serving.{IsServing, StepCause, Steps, holding, no_entry, one_more, report_of};
 
-use crate::plans::{finish_cached, prepare_cached};
-use crate::replies::{gather, send};
+use crate::batch::{BATCH, Behind, answer_front};
+use crate::replies::send;
 use arrayvec::ArrayVec;
-use hsm_answers::words_authorise;
 use hsm_auth::Place;
 use hsm_desk::{Booked, Desk, Pass};
+use hsm_frame::Frames;
 use hsm_frame::laws::has_one_reading;
-use hsm_frame::{Frames, Next};
 use hsm_io::{Clock, Gate, Got, Link};
 use hsm_lmk::KeyCache;
 use hsm_rows::Module;
@@ -29,6 +28,8 @@ pub struct Tools<C, G> {
     pub pass: Pass,
     pub clock: C,
     pub gate: G,
+    /// The room for the bytes of a read.
+    pub room: [u8; 4096],
     /// The bytes that came and were not handed out.
     pub frames: Frames,
     pub reply: Reply,
@@ -38,6 +39,8 @@ pub struct Tools<C, G> {
     pub lane: u32,
     /// The keys that were opened last; they stay from one connection to the next.
     pub cache: KeyCache,
+    /// What was booked for the messages that are answered together. What stands there before is not read.
+    pub booked: [Booked; BATCH],
 }
 
 /// How a connection ended.
@@ -71,8 +74,8 @@ pub struct Report {
 
 // How many messages were booked, and the places of the first and the last of their entries.
 #[derive(Clone, Copy)]
-struct Count {
-    messages: u64,
+pub(crate) struct Count {
+    pub(crate) messages: u64,
     first: Option<u64>,
     last: Option<u64>,
 }
@@ -89,7 +92,7 @@ impl Count {
     }
 
     // Counts one more entry.
-    fn add(&mut self, place: u64)
+    pub(crate) fn add(&mut self, place: u64)
         requires { self.old.messages < 2 ^ 63 }
         ensures { self.new ≡ one_more self.old place }
     {
@@ -111,46 +114,6 @@ impl Count {
             hits,
         }
     }
-}
-
-// Books the ask of a message, and puts its answer in the place of the reply, and what was booked in that of `booked`.
-// A constant parameter that nothing reads: the toolchain has no plan for a value that holds a type with a lifetime in a function without parameters.
-fn book_message<R: Wait, C: Clock, G: Gate, const N: usize>(
-    rt: &R,
-    module: &Module,
-    desk: &Desk,
-    kind: Place,
-    pass: &mut Pass,
-    clock: &mut C,
-    gate: &mut G,
-    cache: &mut KeyCache,
-    lane: u32,
-    message: &[u8],
-    booked: &mut Booked,
-    reply: &mut Reply,
-    count: &mut Count,
-)
-    requires agrees { IsCacheOf «module».now cache.old }
-    requires desk { pass.old.desk ≡ desk.now }
-    requires least { least_for «module».now kind ≤ length message.now }
-    requires most { length message.now ≤ 65535 }
-    requires counted { count.old.messages ≤ length pass.old.seen }
-    ensures agrees { IsCacheOf «module».now cache.new }
-    ensures desk { pass.new.desk ≡ pass.old.desk }
-    ensures counted { count.new.messages ≤ length pass.new.seen }
-    ensures booked { (start : Scene) (traffic : Option Traffic) (rest out : List ℕ)
-        → IsServing «module».now kind lane start (scene pass.old (C.last clock.old) (C.to_come clock.old) (G.calls gate.old) traffic cache.old)
-        (holding (frame message.now ++ rest) out count.old)
-        → IsServing «module».now kind lane start (scene pass.new (C.last clock.new) (C.to_come clock.new) (G.calls gate.new) traffic cache.new)
-        (holding rest (out ++ frame reply.new) count.new) }
-{
-    words_authorise();
-    let plan = prepare_cached(module, cache, kind, message);
-    gate.before_book(lane, count.messages);
-    desk.book_into(rt, pass, clock, &plan.ask(), booked);
-    gate.after_book(lane, count.messages);
-    finish_cached(module, cache, &plan, &booked.granted, reply);
-    count.add(booked.place);
 }
 
 /// The least length of a message from there: a host's has a header and a command code, the console's has one byte.
@@ -200,38 +163,17 @@ fn answer_messages<R: Wait, K: Link, C: Clock, G: Gate>(
     ensures frames { tools.new.frames.least ≡ tools.old.frames.least }
 {
     has_one_reading();
-    let lane = tools.lane;
-    let mut booked = Booked::nothing();
     'messages: loop {
-        match tools.frames.next() {
-            Next::Message(message) => {
-                book_message::<R, C, G, 0>(
-                    rt,
-                    module,
-                    desk,
-                    kind,
-                    &mut tools.pass,
-                    &mut tools.clock,
-                    &mut tools.gate,
-                    &mut tools.cache,
-                    lane,
-                    message,
-                    &mut booked,
-                    &mut tools.reply,
-                    count,
-                );
-                match gather(tools.reply.bytes(), &mut tools.out, link) {
-                    Ok(()) => {}
-                    Err(_) => return Some(ConnEnd::WriteFault),
-                }
-            }
-            Next::Short(length) => {
+        match answer_front(rt, module, desk, kind, tools, link, count) {
+            Ok(Behind::More) => {}
+            Ok(Behind::NotYet) => return None,
+            Ok(Behind::Short(length)) => {
                 return match send(&mut tools.out, link) {
                     Ok(()) => Some(end_short(module, kind, length)),
                     Err(_) => Some(ConnEnd::WriteFault),
                 };
             }
-            Next::NotYet => return None,
+            Err(_) => return Some(ConnEnd::WriteFault),
         }
     }
 }
@@ -275,11 +217,10 @@ fn serve_piece<R: Wait, K: Link, C: Clock, G: Gate>(
         Ok(()) => {}
         Err(_) => return Some(ConnEnd::WriteFault),
     }
-    let mut room = [0; 4096];
     let size = (65_537 - tools.frames.held()).min(4096);
-    match link.read(&mut room[..size]) {
+    match link.read(&mut tools.room[..size]) {
         Got::Bytes(read) => {
-            let piece = &room[..read];
+            let piece = &tools.room[..read];
             tell_bytes(piece);
             tools.frames.feed(piece);
             answer_messages(rt, module, desk, kind, tools, link, count)

@@ -75,6 +75,10 @@ struct Holding<'a> {
 impl<'a> Gate for Holding<'a> {
     ghost calls = { λ gate. None };
 
+    fn may_hold(&self) -> bool {
+        true
+    }
+
     fn before_book(&mut self, lane: u32, message: u64) {
         if lane == 1 && message == 1 {
             self.progress.asked_again.store(true, Ordering::SeqCst);

@@ -9,8 +9,21 @@ use Rattle.hsm_program.specs.declared.lanes.LanesFault.{LanesFault}
 use Rattle.hsm_program.specs.Lanes.{AreRefused, IsNewLane, keeps}
 use Rattle.hsm_program.proofs.Apart.{apart}
 use Rattle.hsm_program.proofs.Lists.{map_at, stands_at}
-use Rattle.hsm_program.proofs.Opening.{OpenTo, all_open, map_set, open_first, open_more, place, refused_next, source}
+use Rattle.hsm_program.proofs.Opening.{OpenTo, all_open, map_set, open_first, open_more, place, refused_first, refused_next, source}
 use Rattle.hsm_program.proofs.lanes.open_lanes.Goals as goal
+
+pub returns-in_err-lane-clause-refused : goal.returns-in_err-lane-clause-refused
+returns-in_err-lane-clause-refused g c =
+    let ports_are : c.deref.result.now ≡ ports_of c.args.config.now = search rules in
+    let some : 0 < length c.deref.result.now = subst (λ (ports : List ℕ). 0 < length ports) (sym ports_are) (omega arith) in
+    let at_port : slice_get (ports_of c.args.config.now) 0 ≡ Some (slice_index_or c.deref.result.now 0 0) =
+    subst (λ (ports : List ℕ). slice_get ports 0 ≡ Some (slice_index_or c.deref.result.now 0 0)) ports_are (stands_at c.deref.result.now 0 0 some) in
+    let before = g.B.Bench.doors c.args.bench.now in
+    let after = g.B.Bench.doors c.open_lane.new.bench in
+    let refused = refused_first (ports_of c.args.config.now) before after (slice_index_or c.deref.result.now 0 0) _ at_port c.requires.asked c.open_lane.ensures.asked c.in_err-lane.ensures.refused in
+    let fault = err_from_is_err_and c.from_residual.result c.from_residual.ensures.1 in
+    subst (λ (r : Result _ LanesFault). IfErr r (λ f. AreRefused (ports_of c.args.config.now) before after f)) (sym fault.1)
+    (subst (λ (f : LanesFault). AreRefused (ports_of c.args.config.now) before after f) (sym fault.2) refused)
 
 pub lanes-init : goal.lanes-init
 lanes-init g c =
