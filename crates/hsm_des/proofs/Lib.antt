@@ -7,4 +7,5 @@ pub mod Linear
 pub mod KeyTable
 pub mod Exchanges
 pub mod Rounds
+pub mod RoundsBeside
 pub mod Parity

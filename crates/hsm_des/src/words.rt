@@ -103,7 +103,7 @@ pub fn narrow(word: u64) -> u32
 
 // IP, and the halves of what it gives, in wide form.
 #[inline(always)]
-fn wide_initial(block: u64) -> (u64, u64)
+pub(crate) fn wide_initial(block: u64) -> (u64, u64)
     ensures left { half_of result.0 ≡ take 32 (pick initial_permutation (bits 64 block)) }
     ensures right { half_of result.1 ≡ drop 32 (pick initial_permutation (bits 64 block)) }
     ensures left_wide { IsWide result.0 }
@@ -115,7 +115,7 @@ fn wide_initial(block: u64) -> (u64, u64)
 
 // The inverse of IP on halves in wide form.
 #[inline(always)]
-fn wide_last(left: u64, right: u64) -> u64
+pub(crate) fn wide_last(left: u64, right: u64) -> u64
     ensures { result ≡ number (pick final_permutation (half_of left ++ half_of right)) }
 {
     last(narrow(left), narrow(right))
@@ -124,7 +124,7 @@ fn wide_last(left: u64, right: u64) -> u64
 // f (R, K), in wide form: there the sixes of E are at the places where the word of a round key has its bits.
 // The sixes that need the least shifting come first, since their entries are there the soonest.
 #[inline(always)]
-fn cipher_function(half: u64, key: u64) -> u64
+pub(crate) fn cipher_function(half: u64, key: u64) -> u64
     requires { IsWide half }
     ensures half { half_of result ≡ cipher_function (half_of half) (round_key key) }
     ensures wide { IsWide result }
@@ -183,7 +183,7 @@ fn back_rounds(keys: &[u64; 16], left: u64, right: u64) -> (u64, u64)
 /// Contracts see them as lists of 48 bits.
 #[derive(Clone, Copy)]
 pub struct Schedule {
-    keys: [u64; 16],
+    pub(crate) keys: [u64; 16],
 }
 
 impl Model for Schedule {

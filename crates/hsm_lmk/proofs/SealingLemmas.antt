@@ -104,3 +104,12 @@ part_of_front key bytes n i parts h count same =
     ∙ ap (drop (8 * i)) (sym (take-take (8 * i + 8) (8 * n) bytes within) ∙ ap (take (8 * i + 8)) (sym same))
     ∙ sym (between_is (key_bytes key) (8 * i) (8 * i + 8))
     ∙ part_in_bytes key i parts h)
+
+-- ---- at most three blocks
+
+pub three_blocks : (f : ℕ → ℕ) (n a b c : ℕ) → n < 4 → (0 < n → a ≡ f 0) → (1 < n → b ≡ f 1) → (2 < n → c ≡ f 2)
+    → (i : ℕ) → i < n → slice_index (a ∷ b ∷ c ∷ []) i ≡ f i
+three_blocks f n a b c few first second third zero h = first h
+three_blocks f n a b c few first second third (suc zero) h = second h
+three_blocks f n a b c few first second third (suc (suc zero)) h = third h
+three_blocks f n a b c few first second third (suc (suc (suc i))) h = absurd (omega arith)

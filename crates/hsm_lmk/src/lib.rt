@@ -1,14 +1,14 @@
 //! Sealing and opening of keys under LMK pairs and wrapping keys.
 #![tactic(auto)]
 
-ghost use Rattle.std.specs.Prelude.{◌≡◌, ◌+◌, ◌-◌, ◌*◌, ◌<◌, ◌≤◌, ◌↔◌, ℕ, List, [], ◌∷◌, length, true, false, not, map, IsTrue, IfOk, slice_index, Some, codes};
+ghost use Rattle.std.specs.Prelude.{◌≡◌, ◌+◌, ◌-◌, ◌*◌, ◌^◌, ◌<◌, ◌≤◌, ◌↔◌, ℕ, List, [], ◌∷◌, length, true, false, not, map, IsTrue, IfOk, slice_index, slice_index_or, Some, codes};
 ghost use Rattle.hsm_types.specs.Table.{variant_of, allows_length};
 ghost use Rattle.hsm_types.specs.Schemes.{scheme_parts};
 ghost use Rattle.hsm_tdes.specs.Tdes.{enciphered, deciphered};
 ghost use Rattle.hsm_lmk.specs.Opened.{all_odd, open_answer, opened, sealed};
 ghost use Rattle.hsm_lmk.specs.Opening.{AllPairsOdd, IsFirstEven, refuses_scheme, is_untagged_pair, is_lmk_scheme};
 ghost use Rattle.hsm_lmk.specs.Pairs.{AllOdd, lmk_pair};
-ghost use Rattle.hsm_lmk.specs.Sealing.{Sealed, under, varied, scheme_variants, type_variants, wrap, block_at, pair_key, lmk_check};
+ghost use Rattle.hsm_lmk.specs.Sealing.{Sealed, under, varied, scheme_variants, type_variants, wrap, block_at, block_of, pair_key, lmk_check};
 
 mod cache;
 mod kept;
@@ -18,7 +18,7 @@ mod prepared;
 use arrayvec::ArrayVec;
 pub use cache::open_cached;
 use hsm_parity::is_odd;
-use hsm_tdes::{Key, Prepared, decipher, encipher};
+use hsm_tdes::{Key, Prepared, decipher, decipher_two, encipher, encipher_two};
 use hsm_types::{KeyType, Scheme, length_allowed, pair, scheme_parts, variant};
 pub use kept::{KeyCache, KeyEntry};
 use std::fmt;
@@ -218,6 +218,32 @@ fn vary_next(prepared: &mut Prepared, wrapping: &Key, scheme: Scheme, i: usize)
     }
 }
 
+// The blocks of the text of the key under a wrapping key, and zeros for parts that the scheme has not. The first two
+// parts are enciphered side by side.
+fn sealed_blocks(wrapping: &Key, scheme: Scheme, key: &Key) -> [u64; 3]
+    requires wrapping { 2 ≤ length wrapping.now }
+    requires parts { length key.now ≡ scheme_parts scheme }
+    ensures { (i : ℕ) → i < scheme_parts scheme → slice_index result i ≡ enciphered (under wrapping.now scheme i) (block_of (slice_index_or key.now i [])) }
+{
+    let first = Prepared::of(&under(wrapping, scheme, 0));
+    let a = u64::from_be_bytes(key.part(0));
+    if key.parts() == 1 {
+        return [first.encipher(a), 0, 0];
+    }
+    let mut second = first;
+    vary_next(&mut second, wrapping, scheme, 1);
+    let b = u64::from_be_bytes(key.part(1));
+    if key.parts() == 2 {
+        let (x, y) = encipher_two(&first, &second, (a, b));
+        return [x, y, 0];
+    }
+    let mut third = second;
+    vary_next(&mut third, wrapping, scheme, 2);
+    let c = u64::from_be_bytes(key.part(2));
+    let (x, y) = encipher_two(&first, &second, (a, b));
+    [x, y, third.encipher(c)]
+}
+
 // Writes the text of the key under a wrapping key.
 fn seal_parts(wrapping: &Key, scheme: Scheme, key: &Key, out: &mut [u8])
     requires wrapping { 2 ≤ length wrapping.now }
@@ -226,11 +252,9 @@ fn seal_parts(wrapping: &Key, scheme: Scheme, key: &Key, out: &mut [u8])
     ensures sealed { Sealed wrapping.now scheme key.now out.new }
     ensures value { out.new ≡ sealed wrapping.now scheme key.now }
 {
-    let mut prepared = Prepared::of(&under(wrapping, scheme, 0));
+    let blocks = sealed_blocks(wrapping, scheme, key);
     for i in 0..key.parts() {
-        vary_next(&mut prepared, wrapping, scheme, i);
-        let block = prepared.encipher(u64::from_be_bytes(key.part(i)));
-        out[8 * i..8 * i + 8].copy_from_slice(&block.to_be_bytes());
+        out[8 * i..8 * i + 8].copy_from_slice(&blocks[i].to_be_bytes());
     }
 }
 
@@ -282,6 +306,34 @@ fn block_at(text: &[u8], i: usize) -> u64
     u64::from_be_bytes(bytes)
 }
 
+// The parts that the text has under a wrapping key, and zeros for those that the scheme has not. The first two are
+// deciphered side by side.
+fn opened_blocks(wrapping: &Key, scheme: Scheme, text: &[u8]) -> [u64; 3]
+    requires wrapping { 2 ≤ length wrapping.now }
+    requires size { length text.now ≡ 8 * scheme_parts scheme }
+    ensures values { (i : ℕ) → i < scheme_parts scheme → slice_index result i ≡ deciphered (under wrapping.now scheme i) (block_at text.now i) }
+    ensures texts { (i : ℕ) → i < scheme_parts scheme → block_at text.now i < 2 ^ 64 }
+{
+    let parts = scheme_parts(scheme);
+    let first = Prepared::of(&under(wrapping, scheme, 0));
+    let a = block_at(text, 0);
+    if parts == 1 {
+        return [first.decipher(a), 0, 0];
+    }
+    let mut second = first;
+    vary_next(&mut second, wrapping, scheme, 1);
+    let b = block_at(text, 1);
+    if parts == 2 {
+        let (x, y) = decipher_two(&first, &second, (a, b));
+        return [x, y, 0];
+    }
+    let mut third = second;
+    vary_next(&mut third, wrapping, scheme, 2);
+    let c = block_at(text, 2);
+    let (x, y) = decipher_two(&first, &second, (a, b));
+    [x, y, third.decipher(c)]
+}
+
 // The key of which the text is the text under a wrapping key, whatever its parity.
 fn open_parts(wrapping: &Key, scheme: Scheme, text: &[u8]) -> Key
     requires wrapping { 2 ≤ length wrapping.now }
@@ -289,12 +341,10 @@ fn open_parts(wrapping: &Key, scheme: Scheme, text: &[u8]) -> Key
     ensures { Sealed wrapping.now scheme result text.now }
 {
     let parts = scheme_parts(scheme);
+    let blocks = opened_blocks(wrapping, scheme, text);
     let mut bytes = [0; 24];
-    let mut prepared = Prepared::of(&under(wrapping, scheme, 0));
     for i in 0..parts {
-        vary_next(&mut prepared, wrapping, scheme, i);
-        let block = prepared.decipher(block_at(text, i));
-        bytes[8 * i..8 * i + 8].copy_from_slice(&block.to_be_bytes());
+        bytes[8 * i..8 * i + 8].copy_from_slice(&blocks[i].to_be_bytes());
     }
     match Key::of(&bytes[..8 * parts]) {
         Some(key) => key,

@@ -1,3 +1,4 @@
 pub mod Tdes
 pub mod Parts
 pub mod Schedules
+pub mod Steps

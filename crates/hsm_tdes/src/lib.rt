@@ -4,9 +4,11 @@
 ghost use Rattle.std.specs.Prelude.{◌≡◌, ◌+◌, ◌*◌, ◌<◌, ◌≤◌, ◌↔◌, [], ◌∷◌, length, slice_get, slice_range, IsNone, IfSome, IsTrue, Some, codes};
 ghost use Rattle.hsm_tdes.specs.Tdes.{IsKey, IsPart, enciphered, deciphered, check_value, repeats_part, key_bytes, IsNoKeyLength};
 
+mod beside;
 pub mod laws;
 mod prepared;
 
+pub use beside::{decipher_two, encipher_two};
 use hsm_des::{Schedule, decrypt, decrypt_encrypt_decrypt, encrypt, encrypt_decrypt_encrypt};
 use hsm_nibbles::block_characters;
 pub use prepared::Prepared;

@@ -1,5 +1,6 @@
 //! Keys whose schedules are made once.
-ghost use Rattle.std.specs.Prelude.{◌≡◌, ◌≤◌, ◌↔◌, IsTrue, take, drop, length, set};
+ghost use Rattle.std.specs.Prelude.{◌≡◌, ◌≤◌, ◌↔◌, IfSome, IsTrue, take, drop, length, set};
+ghost use Rattle.hsm_tdes.specs.Steps.{AreSteps, IsSingle};
 ghost use Rattle.hsm_tdes.specs.Tdes.{enciphered, deciphered};
 
 use crate::{Key, Parts, whole};
@@ -110,6 +111,27 @@ impl Prepared {
             Schedules::One(a) => decrypt(a, block),
             Schedules::Two(a, b) => decrypt_encrypt_decrypt(a, b, a, block),
             Schedules::Three(a, b, c) => decrypt_encrypt_decrypt(c, b, a, block),
+        }
+    }
+
+    // The schedule of a key of one part.
+    pub(crate) fn single(&self) -> Option<&Schedule>
+        ensures { IfSome result (λ s. IsSingle self.now s.now) }
+    {
+        match &self.schedules {
+            Schedules::One(a) => Some(a),
+            _ => None,
+        }
+    }
+
+    // The schedules of a key of two or three parts for the three steps of an encipherment.
+    pub(crate) fn steps(&self) -> Option<(&Schedule, &Schedule, &Schedule)>
+        ensures { IfSome result (λ s. AreSteps self.now s.0.now s.1.now s.2.now) }
+    {
+        match &self.schedules {
+            Schedules::One(_) => None,
+            Schedules::Two(a, b) => Some((a, b, a)),
+            Schedules::Three(a, b, c) => Some((a, b, c)),
         }
     }
 

@@ -1,4 +1,4 @@
-use Rattle.std.proofs.Common.{◌≡◌, ℕ, ◌+◌, ◌-◌, ◌*◌, ◌^◌, ◌<◌, ◌≤◌, ◌∙◌, length, take, sym, ap, ap₂, arith, below_more, length-take-le}
+use Rattle.std.proofs.Common.{◌≡◌, ℕ, ◌+◌, ◌-◌, ◌*◌, ◌^◌, ◌<◌, ◌≤◌, ◌∙◌, length, slice_index, take, sym, ap, arith, below_more, length-take-le}
 use Rattle.hsm_tdes.specs.Tdes.{enciphered, deciphered, key_bytes}
 use Rattle.hsm_tdes.proofs.TdesLaws.{enciphered-deciphered}
 use Rattle.hsm_types.specs.Schemes.{scheme_parts}
@@ -11,18 +11,15 @@ loop-i-preserved c =
     let i = c.loop-i.i in
     let bytes = c.loop-i.bytes in
     let new = c.copy_from_slice.new.self in
-    let last : i ≡ i + 1 - 1 = omega arith in
-    let n = c.decipher-block.result in
+    let n = slice_index c.opened_blocks-blocks.result i in
     let w = c.args.wrapping.now in
     let s = c.args.scheme in
     let same = c.copy_from_slice.ensures.after ∙ c.to_be_bytes.ensures in
     let most = c.scheme_parts-parts.ensures.most in
     let room : 8 * i + 8 ≤ length bytes = omega (arith, c.loop-i.invariant.size, most) in
-    let value : n ≡ deciphered (under w s i) (block_at c.args.text.now i) =
-    c.decipher-block.ensures ∙ ap₂ deciphered c.vary_next.ensures c.block_at.ensures in
-    let small : block_at c.args.text.now i < 2 ^ 64 = omega (arith, c.block_at.ensures) in
+    let value : n ≡ deciphered (under w s i) (block_at c.args.text.now i) = c.opened_blocks-blocks.ensures.values i (omega (arith, c.scheme_parts-parts.ensures.parts)) in
+    let small : block_at c.args.text.now i < 2 ^ 64 = c.opened_blocks-blocks.ensures.texts i (omega (arith, c.scheme_parts-parts.ensures.parts)) in
     record {
-      prepared = c.vary_next.ensures ∙ ap (under w s) last;
       size = length-written bytes new i n room same ∙ c.loop-i.invariant.size;
       each = below_more _ _
           (λ k h. c.loop-i.invariant.each k h ∙ ap (enciphered (under w s k)) (sym (block_kept bytes new i k (8 * i + 8 - 8 * i) h (omega arith))))
