@@ -4,7 +4,7 @@ ghost use Rattle.hsm_desk.specs.Passes.{step};
 
 use crate::{BOOKINGS, FOUR, Load, MANY, WORK, drawing_ask, other_work, still_clock};
 use hsm_auth::Ledger;
-use hsm_desk::{Booked, Desk, Pass, Queue};
+use hsm_desk::{Booked, Desk, Pass};
 use hsm_io::MemClock;
 use std::alloc::{AllocError, Global};
 use std::sync::Wait;
@@ -33,18 +33,11 @@ fn book<R: Wait>(rt: &R, desk: &Desk, lane: &mut Lane, times: u32, work: u32)
     requires { lane.old.pass.desk ≡ desk.now }
     ensures { lane.new.pass.desk ≡ desk.now }
 {
-    let ask = drawing_ask();
-    let mut booked = Booked::nothing();
+    let asks = [drawing_ask()];
+    let mut booked = [Booked::nothing()];
     for _ in 0..times {
         lane.sum = other_work(lane.sum, work);
-        desk.book_into(
-            rt,
-            &Queue::none(),
-            &mut lane.pass,
-            &mut lane.clock,
-            &ask,
-            &mut booked,
-        );
+        desk.book_all(rt, &mut lane.pass, &mut lane.clock, &asks, &mut booked);
     }
 }
 

@@ -1,5 +1,6 @@
 -- One booking, put together from its steps.
-use Rattle.std.proofs.Common.{◌≡◌, ℕ, ◌+◌, ◌%◌, ◌^◌, ◌<◌, ◌≤◌, List, [], ◌∷◌, ◌++◌, length, Option, Some, None, refl, sym, ap, ap₂, ◌∙◌, subst, arith, length-append}
+use Rattle.std.proofs.Common.{◌≡◌, ℕ, ◌+◌, ◌%◌, ◌^◌, ◌<◌, ◌≤◌, List, [], ◌∷◌, ◌++◌, length, take, slice_index_or, slice_set, Option, Some, None, refl, sym, ap, ap₂, ◌∙◌, subst, arith, length-append}
+use Rattle.std.proofs.lemmas.List.{take_more, take_more_set}
 use Rattle.atomic_table.specs.Table.{Allows, rest}
 use Rattle.atomic_table.specs.Seated.{TableId}
 use Rattle.hsm_auth.specs.declared.entry.Ask.{Ask}
@@ -13,7 +14,8 @@ use Rattle.hsm_desk.specs.declared.view.InSlot.{InSlot}
 use Rattle.hsm_desk.specs.declared.view.Stage.TheVariants.{Idle, Waiting, Turn}
 use Rattle.hsm_desk.specs.Kin.{IsCons, IsKin, IsSound, Owns, first_pair, Grows}
 use Rattle.hsm_desk.specs.Rule.{knowing, viewed, Ruled, Seated, Enters, Takes, Has, entry_by, ticket_of}
-use Rattle.hsm_desk.specs.Passes.{PassView, Books}
+use Rattle.hsm_desk.specs.declared.desk.Booked.{Booked}
+use Rattle.hsm_desk.specs.Passes.{PassAndClock, PassView, Books, BooksAll, BooksOne}
 use Rattle.hsm_desk.proofs.Moves.{enters_at}
 
 abbrev Carried : Type 0
@@ -117,3 +119,20 @@ own_from was me x n new empty is told =
     let e : me ≡ (was.0, (0, Some x) ∷ []) = is ∙ ap (λ (c : Carried). (was.0, (0, Some x) ∷ rest c)) empty in
     let fact = told x (ap (λ (m : Seated). m.1) e) in
     subst (λ (m : Seated). Owns (m.0.known.seen ++ entry_by m.0.known.kin x ∷ []) m.0.known.kin) e fact.own
+
+-- one more booking
+pub books_push : (start old new : PassAndClock) (asks : List Ask) (booked : List Booked) (ask : Ask) (answer : Booked) → BooksAll start old asks booked → BooksOne old new ask answer
+    → BooksAll start new (asks ++ ask ∷ []) (booked ++ answer ∷ [])
+books_push start old new [] [] ask answer same one = (new, subst (λ (from : PassAndClock). BooksOne from new ask answer) same one, refl)
+books_push start old new [] (b ∷ booked) ask answer none one = absurd none
+books_push start old new (a ∷ asks) [] ask answer none one = absurd none
+books_push start old new (a ∷ asks) (b ∷ booked) ask answer all one = (all.0, all.1, books_push all.0 old new asks booked ask answer all.2 one)
+
+-- one more booking for the next of a list of asks, with its answer in the place of the next of a list
+pub books_more : (start old new : PassAndClock) (asks : List Ask) (booked : List Booked) (at : ℕ) (other : Ask) (answer : Booked) → at < length asks → at < length booked
+    → BooksAll start old (take at asks) (take at booked) → BooksOne old new (slice_index_or asks at other) answer → BooksAll start new (take (at + 1) asks) (take (at + 1) (slice_set booked at answer))
+books_more start old new asks booked at other answer within there all one =
+    let first : take (at + 1) asks ≡ take at asks ++ slice_index_or asks at other ∷ [] = take_more asks at other within in
+    let second : take (at + 1) (slice_set booked at answer) ≡ take at booked ++ answer ∷ [] = take_more_set booked at answer there in
+    subst (λ (both : List Ask × List Booked). BooksAll start new both.0 both.1) (λ i. (sym first i, sym second i))
+    (books_push start old new (take at asks) (take at booked) (slice_index_or asks at other) answer all one)

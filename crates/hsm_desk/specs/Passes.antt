@@ -1,5 +1,5 @@
 -- Passes and bookings, as contracts see them.
-use Rattle.std.specs.Prelude.{◌≡◌, ℕ, ◌+◌, ◌^◌, ◌<◌, ◌≤◌, List, [], ◌∷◌, ◌++◌, length, slice_get, Some}
+use Rattle.std.specs.Prelude.{◌≡◌, ℕ, ◌+◌, ◌^◌, ◌<◌, ◌≤◌, List, [], ◌∷◌, ◌++◌, length, slice_get, Option, Some}
 use mathlib.Core.List.{IsPrefix}
 use Rattle.atomic_table.specs.Seated.{TableId}
 use Rattle.hsm_auth.specs.declared.entry.Ask.{Ask}
@@ -7,6 +7,8 @@ use Rattle.hsm_auth.specs.declared.entry.Granted.{Granted}
 use Rattle.hsm_auth.specs.declared.entry.Entry.{Entry}
 use Rattle.hsm_auth.specs.History.{entry, outcome}
 use Rattle.hsm_auth.specs.Own.{own}
+use Rattle.hsm_io.specs.Moments.{tick, after_now}
+use Rattle.hsm_desk.specs.declared.desk.Booked.{Booked}
 use Rattle.hsm_desk.specs.Kin.{IsSpanned, EachSpanning, Grows, IsSound, first_pair, kept_kin, new_kin}
 
 -- a pass: the desk that it belongs to, the history that it has seen, and its kin, which begins with its own number and step
@@ -49,6 +51,29 @@ pub record Books (p q : PassView) (moment : ℕ) (ask : Ask) (granted : Granted)
 -- the entries of the booking pass, with their places: those from before and the new one
 abbrev pub OwnBooked : PassView → PassView → ℕ → Ask → Granted → ℕ → Type 0
 OwnBooked p q moment ask granted place = own (number p) q.seen ≡ own (number p) p.seen ++ (place, entry (number p) moment ask granted) ∷ []
+
+-- What a pass and the clock that it books with show at one time: the pass, the moment that the clock gave last, and where told those to come.
+pub record PassAndClock : Type 0 where
+  pub pass : PassView
+  pub last : ℕ
+  pub to_come : Option (List ℕ)
+
+abbrev pub with_clock : PassView → ℕ → Option (List ℕ) → PassAndClock
+with_clock pass last to_come = record { pass = pass; last = last; to_come = to_come }
+
+-- One booking, for which the clock was asked once: the moment that it gave is the entry's.
+pub record BooksOne (before after : PassAndClock) (ask : Ask) (booked : Booked) : Type 0 where
+  pub entry : Books before.pass after.pass after.last ask booked.granted booked.place
+  pub own : OwnBooked before.pass after.pass after.last ask booked.granted booked.place
+  pub sound : Sound after.pass
+  pub moment : (moments : List ℕ) → before.to_come ≡ Some moments → (after.last ≡ tick moments 0) × (after.to_come ≡ Some (after_now moments))
+
+-- One booking for each of the asks, in their order, each from where the one before it left the pass and the clock: the answers are just those of these bookings, each in its ask's place.
+abbrev pub BooksAll : PassAndClock → PassAndClock → List Ask → List Booked → Type 0
+BooksAll before after [] [] = after ≡ before
+BooksAll before after [] (b ∷ booked) = ⊥
+BooksAll before after (ask ∷ asks) [] = ⊥
+BooksAll before after (ask ∷ asks) (b ∷ booked) = (between : PassAndClock) × BooksOne before between ask b × BooksAll between after asks booked
 
 -- The pass made just these entries, in this order: its number and its kin stayed, and its history went on. The other entries that came are of numbers that its kin does not span.
 pub record Makes (p q : PassView) (entries : List (ℕ × Entry)) : Type 0 where

@@ -1,8 +1,8 @@
 //! The desk and its passes.
 //!
-//! A booking draws a ticket, waits until it is served, takes the ledger, makes its entry, puts the ledger back
-//! and passes the turn on. A lock round all of this lets the threads that wait sleep.
-ghost use Rattle.std.specs.Prelude.{◌≡◌, ℕ, ◌^◌, ◌<◌, ◌≤◌, List, [], ◌∷◌, ◌++◌, length, IfOk};
+//! A booking draws a ticket, waits until it is served, takes the ledger, asks the clock, makes its entry, puts the ledger
+//! back and passes the turn on. A lock round the bookings of a call lets the threads that wait sleep.
+ghost use Rattle.std.specs.Prelude.{◌≡◌, ℕ, ◌^◌, ◌<◌, ◌≤◌, List, [], ◌∷◌, ◌++◌, length, All, IfOk};
 ghost use Rattle.hsm_auth.specs.declared.entry.Entry.{Entry};
 ghost use Rattle.hsm_auth.specs.declared.entry.Granted.TheVariants.{Refused};
 ghost use Rattle.hsm_auth.specs.History.{entry, outcome, CanAsk, StandsFor, IsLegal};
@@ -11,7 +11,10 @@ ghost use Rattle.hsm_desk.specs.declared.view.Stage.TheVariants.{Idle, Waiting, 
 ghost use Rattle.hsm_desk.specs.Kin.{IsCons, Owns};
 ghost use Rattle.hsm_desk.specs.Rule.{knowing, viewed, Takes, Has, entry_by};
 ghost use Rattle.hsm_auth.specs.Own.{own};
-ghost use Rattle.hsm_desk.specs.Passes.{number, step, IsWhole, OnlyKin, Sound, Books, OwnBooked, Meets, KeepsOwn, first_pass, kept_pass, new_pass};
+ghost use Rattle.hsm_desk.specs.Passes.{number, step, IsWhole, OnlyKin, Sound, Books, BooksAll, BooksOne, OwnBooked, Meets, KeepsOwn, with_clock, first_pass, kept_pass, new_pass};
+
+#[cfg(test)]
+mod tests;
 
 use crate::plays::{Await, Draw, Enter, Kin, Learn, Turns};
 use crate::view::{InSlot, View};
@@ -45,8 +48,8 @@ type Place = Seat<Option<InSlot>, View>;
 #[derive(Drop)]
 pub struct Desk {
     board: Board,
-    // It guards nothing, and no proof rests on it. A booking holds it from the drawing of its ticket to the passing on
-    // of its turn, so that other threads sleep until the lock is free, and do not spin until their tickets are served.
+    // It guards nothing, and no proof rests on it. A call holds it from the drawing of its first ticket to the passing on
+    // of its last turn, so that other threads sleep until the lock is free, and do not spin until their tickets are served.
     queue: Mutex<()>,
 }
 
@@ -92,7 +95,7 @@ pub struct Booked {
 }
 
 impl Booked {
-    /// What is kept before anything was booked: place 0, and a refusal. [`Desk::book_into`] takes its place.
+    /// What is kept before anything was booked: place 0, and a refusal. [`Desk::book_all`] takes its place.
     pub fn nothing() -> Booked
         ensures { result ≡ record { place = 0; granted = Refused } }
     {
@@ -103,30 +106,18 @@ impl Booked {
     }
 }
 
-/// A place in the queue at a desk. A thread that stands at its head may make several entries while those of others wait.
-/// It guards nothing: at a place that it does not hold, each booking queues up for itself.
-#[derive(Drop)]
-pub struct Queue<'d> {
-    head: Option<MutexGuard<'d, ()>>,
-}
-
-impl<'d> Queue<'d> {
-    /// No place yet: each booking queues up for itself.
-    pub fn none() -> Queue<'d> {
-        Queue { head: None }
-    }
-}
-
 impl InSlot {
-    // Steps the ledger, and keeps of what the entry is made. The answer is put in the place of `granted`.
-    fn step(&mut self, moment: u64, ask: &Ask, granted: &mut Granted)
-        requires moment { moment ≤ 2 ^ 40 }
+    // Asks the clock, steps the ledger, and keeps of what the entry is made. The answer is put in the place of `granted`. Who has
+    // what lies in the slot has the turn: nothing else of a booking is given the clock.
+    fn step<C: Clock>(&mut self, clock: &mut C, ask: &Ask, granted: &mut Granted)
         requires ask { CanAsk ask.now }
-        ensures kept { (self.new.moment ≡ moment) × (self.new.ask.value ≡ ask.now) × (self.new.granted.value ≡ granted.new) }
-        ensures answer { (h : List Entry) → StandsFor self.old.ledger.value h → granted.new ≡ outcome h moment ask.now }
-        ensures stands { (h : List Entry) (pass : ℕ) → StandsFor self.old.ledger.value h → StandsFor self.new.ledger.value (h ++ entry pass moment ask.now granted.new ∷ []) }
-        ensures legal { (h : List Entry) (pass : ℕ) → StandsFor self.old.ledger.value h → IsLegal h → IsLegal (h ++ entry pass moment ask.now granted.new ∷ []) }
+        ensures kept { (self.new.moment ≡ C.last clock.new) × (self.new.ask.value ≡ ask.now) × (self.new.granted.value ≡ granted.new) }
+        ensures answer { (h : List Entry) → StandsFor self.old.ledger.value h → granted.new ≡ outcome h (C.last clock.new) ask.now }
+        ensures stands { (h : List Entry) (pass : ℕ) → StandsFor self.old.ledger.value h → StandsFor self.new.ledger.value (h ++ entry pass (C.last clock.new) ask.now granted.new ∷ []) }
+        ensures legal { (h : List Entry) (pass : ℕ) → StandsFor self.old.ledger.value h → IsLegal h → IsLegal (h ++ entry pass (C.last clock.new) ask.now granted.new ∷ []) }
+        ensures moment { (c : List ℕ) → C.to_come clock.old ≡ Some c → (C.last clock.new ≡ tick c 0) × (C.to_come clock.new ≡ Some (after_now c)) }
     {
+        let moment = clock.now();
         self.ledger.step_into(moment, ask, granted);
         self.moment = moment;
         self.ask = Snapshot::of(ask);
@@ -278,11 +269,24 @@ impl Desk {
         self.queue.lock(rt)
     }
 
-    /// Waits until no other thread stands at the head of the queue. The place is left when it is dropped.
-    pub fn queue_up<R: Wait>(&self, rt: &R) -> Queue<'_> {
-        Queue {
-            head: Some(self.head_of_queue(rt)),
-        }
+    // Makes one entry at the head of the queue. It waits for its turn, and asks the clock once while it has it. What it answers is
+    // put in the place of `booked`.
+    fn book_next<C: Clock, R: Wait>(
+        &self,
+        rt: &R,
+        pass: &mut Pass,
+        clock: &mut C,
+        ask: &Ask,
+        booked: &mut Booked,
+    )
+        requires desk { pass.old.desk ≡ self.now }
+        requires ask { CanAsk ask.now }
+        ensures one { BooksOne (with_clock pass.old (C.last clock.old) (C.to_come clock.old)) (with_clock pass.new (C.last clock.new) (C.to_come clock.new)) ask.now booked.new }
+    {
+        let ticket = self.draw(rt, &mut pass.seat);
+        let mut held = self.take(rt, &mut pass.seat, ticket);
+        held.step(clock, ask, &mut booked.granted);
+        booked.place = self.enter(&mut pass.seat, held, ticket);
     }
 
     /// Makes one entry. It queues up and waits for its turn, asks the clock once while it has it, and takes no memory.
@@ -302,38 +306,39 @@ impl Desk {
         ensures moment { (c : List ℕ) → C.to_come clock.old ≡ Some c → (C.last clock.new ≡ tick c 0) × (C.to_come clock.new ≡ Some (after_now c)) }
     {
         let mut booked = Booked::nothing();
-        self.book_into(rt, &Queue::none(), pass, clock, ask, &mut booked);
+        let head = self.head_of_queue(rt);
+        self.book_next(rt, pass, clock, ask, &mut booked);
+        drop(head);
         booked
     }
 
-    /// [`Desk::book`] at a place in the queue, with what it answers put in the place of `booked`: an answer has 544 bytes, which
-    /// are then moved nowhere.
-    pub fn book_into<C: Clock, R: Wait>(
+    /// Makes one entry for each ask, in their order, each as [`Desk::book`] makes it, and puts what it answers in the ask's
+    /// place of `booked`: an answer has 544 bytes, which are then moved nowhere. It queues up once for all of them, and has left
+    /// the queue when it comes back. It takes no memory, and has no refusal of its own.
+    pub fn book_all<C: Clock, R: Wait>(
         &self,
         rt: &R,
-        queue: &Queue<'_>,
         pass: &mut Pass,
         clock: &mut C,
-        ask: &Ask,
-        booked: &mut Booked,
+        asks: &[Ask],
+        booked: &mut [Booked],
     )
         requires desk { pass.old.desk ≡ self.now }
-        requires ask { CanAsk ask.now }
-        ensures entry { Books pass.old pass.new (C.last clock.new) ask.now booked.new.granted booked.new.place }
-        ensures own { OwnBooked pass.old pass.new (C.last clock.new) ask.now booked.new.granted booked.new.place }
+        requires asks { All CanAsk asks.now }
+        requires places { length booked.old ≡ length asks.now }
+        ensures entries { BooksAll (with_clock pass.old (C.last clock.old) (C.to_come clock.old)) (with_clock pass.new (C.last clock.new) (C.to_come clock.new)) asks.now booked.new }
+        ensures desk { pass.new.desk ≡ pass.old.desk }
         ensures sound { Sound pass.new }
-        ensures moment { (c : List ℕ) → C.to_come clock.old ≡ Some c → (C.last clock.new ≡ tick c 0) × (C.to_come clock.new ≡ Some (after_now c)) }
     {
-        let alone = match queue.head {
-            Some(_) => None,
-            None => Some(self.head_of_queue(rt)),
-        };
-        let ticket = self.draw(rt, &mut pass.seat);
-        let mut held = self.take(rt, &mut pass.seat, ticket);
-        let moment = clock.now();
-        held.step(moment, ask, &mut booked.granted);
-        booked.place = self.enter(&mut pass.seat, held, ticket);
-        drop(alone);
+        pass.facts();
+        if asks.is_empty() {
+            return;
+        }
+        let head = self.head_of_queue(rt);
+        'asks: for (at, ask) in asks.iter().enumerate() {
+            self.book_next(rt, pass, clock, ask, &mut booked[at]);
+        }
+        drop(head);
     }
 
     /// Ends the desk. The answer is the number of all entries: at least as many as the pass has seen,

@@ -5,4 +5,4 @@ mod desk;
 mod plays;
 mod view;
 
-pub use desk::{Booked, Desk, Pass, Queue};
+pub use desk::{Booked, Desk, Pass};

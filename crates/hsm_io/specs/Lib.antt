@@ -5,6 +5,7 @@ pub mod Texts
 pub mod Files
 pub mod Sides
 pub mod Gates
+pub mod GatedLanes
 pub mod Moments
 pub mod MemoryForms
 pub mod Places

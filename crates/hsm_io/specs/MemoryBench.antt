@@ -11,17 +11,18 @@ names_differ [] = true
 names_differ (file ∷ files) = not (list_any (λ other. bytes_eq other.name file.name) files) && names_differ files
 
 -- The seed of a bench in memory: the seed that it gives; the numbers of the calls for a seed that fail, the number of the
--- next one, and how many have failed; and the seed that was given last, empty before the first.
+-- next one, and how many have failed; how many seeds were given, and the last of them, empty before the first.
 pub record SeedState : Type 0 where
   pub seed : List ℕ
   pub bad_seeds : List ℕ
   pub calls : ℕ
   pub faults : ℕ
+  pub given : ℕ
   pub last_seed : List ℕ
 
 -- what it tells of its seeds
 abbrev pub seed_side : SeedState → SeedSide
-seed_side bench = record { faults = bench.faults; last_seed = bench.last_seed }
+seed_side bench = record { faults = bench.faults; given = bench.given; last_seed = bench.last_seed }
 
 -- A call for a seed gives none exactly where its number is listed.
 abbrev pub seed_of : SeedState → Option (List ℕ)
@@ -30,7 +31,7 @@ seed_of bench = if is_listed bench.bad_seeds bench.calls then None else (Some be
 -- what a call for a seed leaves
 abbrev pub after_seed : SeedState → Option (List ℕ) → SeedState
 after_seed bench None = record bench { calls = one_more bench.calls; faults = one_more bench.faults }
-after_seed bench (Some seed) = record bench { calls = one_more bench.calls; last_seed = seed }
+after_seed bench (Some seed) = record bench { calls = one_more bench.calls; given = one_more bench.given; last_seed = seed }
 
 -- the ports of the doors differ
 abbrev pub ports_differ : List (ℕ × DoorState) → Bool
@@ -92,9 +93,11 @@ after_door bench port (Some door) = record bench {
   asked = bench.asked ++ port ∷ [];
 }
 
--- A bench in memory: its files, its seed, its doors, and the moments to come of each clock that it gives.
+-- A bench in memory: its files, its seed, its doors, the moments to come of each clock that it gives, and the lanes for
+-- which it was asked gates.
 pub record BenchState : Type 0 where
   pub files : FilesState
   pub seeds : SeedState
   pub doors : DoorsState
   pub moments : List ℕ
+  pub gates : List ℕ

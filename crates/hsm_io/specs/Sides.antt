@@ -1,22 +1,25 @@
 -- What a bench keeps of its seeds and its doors.
-use Rattle.std.specs.Prelude.{◌≡◌, ◌≢◌, ◌≤◌, ◌⊎◌, ℕ, List, [], ◌∷◌, ◌++◌, All, Bool, false, Option, Some, None}
+use Rattle.std.specs.Prelude.{◌≡◌, ◌≢◌, ◌≤◌, ◌+◌, ◌-◌, ◌^◌, ◌⊎◌, min, ℕ, List, [], ◌∷◌, ◌++◌, All, Bool, false, Option, Some, None}
 use Rattle.hsm_io.specs.Outside.{Rose}
 use Rattle.hsm_io.specs.Connections.{Doorway}
 
--- How often asking for a seed has failed, and the seed that was given last.
+-- How often asking for a seed has failed, how many seeds were given, and the one that was given last.
 pub record SeedSide : Type 0 where
   pub faults : ℕ
+  pub given : ℕ
   pub last_seed : List ℕ
 
--- What asking for a seed leaves where it gives one.
+-- What asking for a seed leaves where it gives one: one more was given, up to the last value of that count.
 pub record Seeded (before after : SeedSide) (seed : List ℕ) : Type 0 where
   pub count : after.faults ≡ before.faults
+  pub given : after.given ≡ min (before.given + 1) (2 ^ 64 - 1)
   pub last : after.last_seed ≡ seed
 
 -- What asking for a seed leaves where it gives none: the count rose.
 pub record NotSeeded (before after : SeedSide) : Type 0 where
   pub rose : Rose before.faults after.faults
   pub later : before.faults ≤ after.faults
+  pub given : after.given ≡ before.given
   pub last : after.last_seed ≡ before.last_seed
 
 -- The connections to come at each port, where told, each by the bytes that it will give; how often asking for a door has

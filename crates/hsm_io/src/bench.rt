@@ -1,5 +1,5 @@
 // The bench, which has the files, the seed, the doors, the clocks and the gates.
-ghost use Rattle.std.specs.Prelude.{◌≡◌, ◌<◌, ℕ, List, [], length, Option, Some, true, false, MatchOption};
+ghost use Rattle.std.specs.Prelude.{◌≡◌, ◌<◌, ◌++◌, ◌∷◌, ℕ, List, [], length, Option, Some, true, false, MatchOption};
 ghost use Rattle.hsm_io.specs.Files.{FileSide, Opened, NotOpened, Closed};
 ghost use Rattle.hsm_io.specs.Sides.{SeedSide, DoorSide, Seeded, NotSeeded, DoorOpened, DoorRefused, IsNotAmong};
 ghost use Rattle.hsm_io.specs.Gates.{GateCall};
@@ -28,6 +28,9 @@ pub trait Bench {
     /// The moments to come of each clock that it gives, where told.
     ghost moments: { Self → Option (List ℕ) };
 
+    /// The lanes for which it was asked gates, in order.
+    ghost gates: { Self → List ℕ };
+
     /// Opens the file of this name, which is then out of the bench, or gives none where that fails.
     fn open_file(&mut self, name: &str) -> Option<Self::File>
         // No file is out.
@@ -36,7 +39,8 @@ pub trait Bench {
             (λ file. Opened (files self.old) (files self.new) name.now (Self.File.stream file) (Self.File.faults file)) }
         ensures seeds { seeds self.new ≡ seeds self.old }
         ensures doors { doors self.new ≡ doors self.old }
-        ensures moments { moments self.new ≡ moments self.old };
+        ensures moments { moments self.new ≡ moments self.old }
+        ensures gates { gates self.new ≡ gates self.old };
 
     /// Puts the file back. Where it failed while it was out, the count for files rises.
     fn close_file(&mut self, file: Self::File)
@@ -45,7 +49,8 @@ pub trait Bench {
         ensures files { Closed (files self.old) (files self.new) (Self.File.stream file) (Self.File.faults file) }
         ensures seeds { seeds self.new ≡ seeds self.old }
         ensures doors { doors self.new ≡ doors self.old }
-        ensures moments { moments self.new ≡ moments self.old };
+        ensures moments { moments self.new ≡ moments self.old }
+        ensures gates { gates self.new ≡ gates self.old };
 
     /// Gives a seed, or none where that fails.
     fn seed(&mut self) -> Option<[u8; 32]>
@@ -53,7 +58,8 @@ pub trait Bench {
             (λ seed. Seeded (seeds self.old) (seeds self.new) seed) }
         ensures files { files self.new ≡ files self.old }
         ensures doors { doors self.new ≡ doors self.old }
-        ensures moments { moments self.new ≡ moments self.old };
+        ensures moments { moments self.new ≡ moments self.old }
+        ensures gates { gates self.new ≡ gates self.old };
 
     /// Opens the door of this port, with the connections to come there, or gives none where that fails.
     fn door(&mut self, port: u16) -> Option<Self::Door>
@@ -66,7 +72,8 @@ pub trait Bench {
             (Self.Door.faults door) (Self.Door.broken door)) }
         ensures files { files self.new ≡ files self.old }
         ensures seeds { seeds self.new ≡ seeds self.old }
-        ensures moments { moments self.new ≡ moments self.old };
+        ensures moments { moments self.new ≡ moments self.old }
+        ensures gates { gates self.new ≡ gates self.old };
 
     /// Gives a clock with the bench's moments to come.
     fn clock(&mut self) -> Self::Clock
@@ -74,7 +81,8 @@ pub trait Bench {
         ensures files { files self.new ≡ files self.old }
         ensures seeds { seeds self.new ≡ seeds self.old }
         ensures doors { doors self.new ≡ doors self.old }
-        ensures moments { moments self.new ≡ moments self.old };
+        ensures moments { moments self.new ≡ moments self.old }
+        ensures gates { gates self.new ≡ gates self.old };
 
     /// Gives a gate for this lane, which has got no calls.
     fn gate(&mut self, lane: u32) -> Self::Gate
@@ -82,5 +90,6 @@ pub trait Bench {
         ensures files { files self.new ≡ files self.old }
         ensures seeds { seeds self.new ≡ seeds self.old }
         ensures doors { doors self.new ≡ doors self.old }
-        ensures moments { moments self.new ≡ moments self.old };
+        ensures moments { moments self.new ≡ moments self.old }
+        ensures gates { gates self.new ≡ gates self.old ++ lane ∷ [] };
 }

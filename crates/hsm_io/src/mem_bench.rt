@@ -1,5 +1,5 @@
 // A bench in memory.
-ghost use Rattle.std.specs.Prelude.{◌≡◌, ◌<◌, ◌≤◌, ◌^◌, [], true, false, None, Some, MatchOption, All, length, bytes_eq, ◌==◌};
+ghost use Rattle.std.specs.Prelude.{◌≡◌, ◌<◌, ◌≤◌, ◌^◌, ◌++◌, ◌∷◌, [], true, false, None, Some, MatchOption, All, length, bytes_eq, ◌==◌};
 ghost use Rattle.std.specs.List.{list_any};
 ghost use Rattle.hsm_io.specs.Files.{Opened, NotOpened, Closed};
 ghost use Rattle.hsm_io.specs.Sides.{Seeded, NotSeeded, DoorOpened, DoorRefused, IsNotAmong};
@@ -7,7 +7,7 @@ ghost use Rattle.hsm_io.specs.Sides.{Seeded, NotSeeded, DoorOpened, DoorRefused,
 use crate::mem_doors::MemDoors;
 use crate::mem_files::MemFiles;
 use crate::mem_seeds::MemSeeds;
-use crate::{Bench, MemClock, MemDoor, MemFile, MemGate, MemNamed};
+use crate::{Bench, GatedLanes, MemClock, MemDoor, MemFile, MemGate, MemNamed};
 use arrayvec::ArrayVec;
 use std::marker::Model;
 
@@ -19,6 +19,7 @@ pub struct MemBench {
     seeds: MemSeeds,
     doors: MemDoors,
     moments: ArrayVec<u64, 16>,
+    gates: GatedLanes,
 }
 
 impl Model for MemBench {
@@ -27,7 +28,13 @@ impl Model for MemBench {
 
     ghost Value = { BenchState };
 
-    ghost view = { λ s. record { files = s.files; seeds = s.seeds; doors = s.doors; moments = s.moments.items } };
+    ghost view = { λ s. record {
+      files = s.files;
+      seeds = s.seeds;
+      doors = s.doors;
+      moments = s.moments.items;
+      gates = s.gates;
+    } };
 
     ghost invariant = { λ s. (0 < length s.moments.items) × All (λ m. m ≤ 2 ^ 40) s.moments.items };
 }
@@ -67,6 +74,7 @@ impl MemBench {
           bad_seeds = bad_seeds.items;
           calls = 0;
           faults = 0;
+          given = 0;
           last_seed = [];
         } }
         ensures doors { result.doors ≡ record {
@@ -78,12 +86,14 @@ impl MemBench {
           asked = [];
         } }
         ensures moments { result.moments ≡ moments.items }
+        ensures gates { result.gates ≡ [] }
     {
         MemBench {
             files: MemFiles::new(files, bad_files),
             seeds: MemSeeds::new(seed, bad_seeds),
             doors: MemDoors::new(doors, bad_doors),
             moments,
+            gates: GatedLanes::new(),
         }
     }
 
@@ -136,6 +146,8 @@ impl Bench for MemBench {
 
     ghost moments = { λ bench. Some bench.moments };
 
+    ghost gates = { λ bench. bench.gates };
+
     fn open_file(&mut self, name: &str) -> Option<MemFile>
         requires { (file_side self.old.files).is_out ≡ false }
         ensures files { MatchOption result (NotOpened (file_side self.old.files) (file_side self.new.files) name.now)
@@ -143,6 +155,7 @@ impl Bench for MemBench {
         ensures seeds { seed_side self.new.seeds ≡ seed_side self.old.seeds }
         ensures doors { door_side self.new.doors ≡ door_side self.old.doors }
         ensures moments { Some self.new.moments ≡ Some self.old.moments }
+        ensures gates { self.new.gates ≡ self.old.gates }
         ensures answer { result ≡ opened_of self.old.files name.now }
         ensures after { self.new ≡ record self.old { files = after_open self.old.files name.now result } }
     {
@@ -155,6 +168,7 @@ impl Bench for MemBench {
         ensures seeds { seed_side self.new.seeds ≡ seed_side self.old.seeds }
         ensures doors { door_side self.new.doors ≡ door_side self.old.doors }
         ensures moments { Some self.new.moments ≡ Some self.old.moments }
+        ensures gates { self.new.gates ≡ self.old.gates }
         ensures after { self.new ≡ record self.old { files = after_close self.old.files file } }
     {
         self.files.close(file)
@@ -166,6 +180,7 @@ impl Bench for MemBench {
         ensures files { file_side self.new.files ≡ file_side self.old.files }
         ensures doors { door_side self.new.doors ≡ door_side self.old.doors }
         ensures moments { Some self.new.moments ≡ Some self.old.moments }
+        ensures gates { self.new.gates ≡ self.old.gates }
         ensures answer { result ≡ seed_of self.old.seeds }
         ensures after { self.new ≡ record self.old { seeds = after_seed self.old.seeds result } }
     {
@@ -181,6 +196,7 @@ impl Bench for MemBench {
         ensures files { file_side self.new.files ≡ file_side self.old.files }
         ensures seeds { seed_side self.new.seeds ≡ seed_side self.old.seeds }
         ensures moments { Some self.new.moments ≡ Some self.old.moments }
+        ensures gates { self.new.gates ≡ self.old.gates }
         ensures answer { result ≡ door_of self.old.doors port }
         ensures after { self.new ≡ record self.old { doors = after_door self.old.doors port result } }
     {
@@ -193,20 +209,23 @@ impl Bench for MemBench {
         ensures seeds { seed_side self.new.seeds ≡ seed_side self.old.seeds }
         ensures doors { door_side self.new.doors ≡ door_side self.old.doors }
         ensures moments { Some self.new.moments ≡ Some self.old.moments }
+        ensures gates { self.new.gates ≡ self.old.gates }
         ensures clock { result ≡ record { last = 0; to_come = self.old.moments } }
         ensures after { self.new ≡ self.old }
     {
         MemClock::new(copy_moments(&self.moments))
     }
 
-    fn gate(&mut self, _lane: u32) -> MemGate
+    fn gate(&mut self, lane: u32) -> MemGate
         ensures files { file_side self.new.files ≡ file_side self.old.files }
         ensures seeds { seed_side self.new.seeds ≡ seed_side self.old.seeds }
         ensures doors { door_side self.new.doors ≡ door_side self.old.doors }
         ensures moments { Some self.new.moments ≡ Some self.old.moments }
+        ensures gates { self.new.gates ≡ self.old.gates ++ lane ∷ [] }
         ensures calls { result ≡ [] }
-        ensures after { self.new ≡ self.old }
+        ensures after { self.new ≡ record self.old { gates = self.old.gates ++ lane ∷ [] } }
     {
+        self.gates.push(lane);
         MemGate::new()
     }
 }

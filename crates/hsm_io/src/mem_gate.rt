@@ -44,10 +44,6 @@ impl MemGate {
 impl Gate for MemGate {
     ghost calls = { λ gate. Some gate };
 
-    fn may_hold(&self) -> bool {
-        false
-    }
-
     fn before_book(&mut self, lane: u32, message: u64) {
         let earlier = mem::replace(&mut self.calls, Snapshot::of(&Kept::Nothing));
         self.calls = Snapshot::of(&Kept::Before(earlier, lane, message));

@@ -12,6 +12,8 @@ pub(crate) struct MemSeeds {
     // The number of the next call.
     calls: u64,
     faults: u64,
+    // How often the seed was given.
+    given: u64,
     // The seed, once it was given.
     last: Option<[u8; 32]>,
 }
@@ -27,6 +29,7 @@ impl Model for MemSeeds {
       bad_seeds = s.bad_seeds.items;
       calls = s.calls;
       faults = s.faults;
+      given = s.given;
       last_seed = unwrap_or s.last [];
     } };
 }
@@ -36,13 +39,14 @@ impl MemSeeds {
 
     // The seed, of which the listed calls fail, numbered from 0.
     pub(crate) fn new(seed: [u8; 32], bad_seeds: Vec<u32>) -> MemSeeds
-        ensures { result ≡ record { seed = seed; bad_seeds = bad_seeds.items; calls = 0; faults = 0; last_seed = [] } }
+        ensures { result ≡ record { seed = seed; bad_seeds = bad_seeds.items; calls = 0; faults = 0; given = 0; last_seed = [] } }
     {
         MemSeeds {
             seed,
             bad_seeds,
             calls: 0,
             faults: 0,
+            given: 0,
             last: None,
         }
     }
@@ -59,6 +63,7 @@ impl MemSeeds {
             self.faults = self.faults.saturating_add(1);
             return None;
         }
+        self.given = self.given.saturating_add(1);
         self.last = Some(self.seed);
         Some(self.seed)
     }

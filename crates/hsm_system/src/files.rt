@@ -1,24 +1,27 @@
 //! A file of the system as a source, and a writer as the output. They tell their counts alone.
 
-ghost use Rattle.std.specs.Prelude.{◌≡◌, None, nat_lt};
+ghost use Rattle.std.specs.Prelude.{◌≡◌, ◌<◌, length, None, nat_lt};
+ghost use Rattle.hsm_io.specs.Outside.{HasCause, Read, Write, has_got_failed, has_put_failed};
+ghost use Rattle.hsm_system.specs.Inside.{reader_of, writer_of};
+ghost use Rattle.hsm_system.specs.Told.{TellsRead, TellsWrite};
 
 use hsm_io::{Got, Put, Sink, Source};
-use std::fs::File;
-use std::io::{Read, Write};
+use std::io;
 
-/// A file of the system, with a count of its failed reads.
+/// A file of the system, or another reader, with a count of its failed reads.
 #[derive(Drop)]
-pub struct SystemFile {
-    file: File,
+pub struct SystemFile<R> {
+    reader: R,
     faults: u64,
 }
 
-impl SystemFile {
+impl<R> SystemFile<R> {
     /// A file that has not failed.
-    pub fn new(file: File) -> Self
-        ensures { result.faults ≡ 0 }
+    pub fn new(reader: R) -> Self
+        ensures reader { reader_of result ≡ reader }
+        ensures no_fault { result.faults ≡ 0 }
     {
-        SystemFile { file, faults: 0 }
+        SystemFile { reader, faults: 0 }
     }
 
     /// Whether a read has failed.
@@ -29,13 +32,18 @@ impl SystemFile {
     }
 }
 
-impl Source for SystemFile {
+impl<R: io::Read> Source for SystemFile<R> {
     ghost stream = { λ file. None };
 
     ghost faults = { λ file. file.faults };
 
-    fn read(&mut self, room: &mut [u8]) -> Got {
-        match self.file.read(room) {
+    fn read(&mut self, room: &mut [u8]) -> Got
+        requires { 0 < length room.old }
+        ensures bytes { Read None None room.new result }
+        ensures cause { HasCause self.old.faults self.new.faults (has_got_failed result) }
+        ensures told { TellsRead (R.remaining (reader_of self.old)) (R.remaining (reader_of self.new)) room.new result }
+    {
+        match self.reader.read(room) {
             Ok(0) => Got::End,
             Ok(count) => Got::Bytes(count),
             Err(_) => {
@@ -55,17 +63,24 @@ pub struct Output<W> {
 
 impl<W> Output<W> {
     /// An output that has not failed.
-    pub fn new(writer: W) -> Self {
+    pub fn new(writer: W) -> Self
+        ensures { writer_of result ≡ writer }
+    {
         Output { writer, faults: 0 }
     }
 }
 
-impl<W: Write> Sink for Output<W> {
+impl<W: io::Write> Sink for Output<W> {
     ghost stands_for = { λ output text. Unit {0} };
 
     ghost faults = { λ output. output.faults };
 
-    fn write(&mut self, piece: &[u8]) -> Put {
+    fn write(&mut self, piece: &[u8]) -> Put
+        requires { 0 < length piece.now }
+        ensures bytes { Write (λ text. Unit {0}) (λ text. Unit {0}) piece.now result }
+        ensures cause { HasCause self.old.faults self.new.faults (has_put_failed result) }
+        ensures told { TellsWrite (W.contents (writer_of self.old)) (W.contents (writer_of self.new)) piece.now result }
+    {
         match self.writer.write(piece) {
             Ok(count) if count > 0 => Put::Took(count),
             _ => {

@@ -6,8 +6,8 @@ use Rattle.hsm_io.proofs.mem_bench.MemBenchBench.seed.Goals as goal
 by : (bench after : SeedState) (o : Option (List ℕ)) → bench.faults ≤ after.faults → after ≡ after_seed bench o
     → MatchOption o (NotSeeded (seed_side bench) (seed_side after)) (λ seed. Seeded (seed_side bench) (seed_side after) seed)
 by bench after None later is =
-    let up = rw is at later in rw is (record { rose = omega arith; later = up; last = refl })
-by bench after (Some seed) later is = rw is (record { count = refl; last = refl })
+    let up = rw is at later in rw is (record { rose = omega arith; later = up; given = refl; last = refl })
+by bench after (Some seed) later is = rw is (record { count = refl; given = refl; last = refl })
 
 pub returns-clause-seeds : goal.returns-clause-seeds
 returns-clause-seeds c =
