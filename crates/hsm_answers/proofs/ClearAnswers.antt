@@ -1,6 +1,6 @@
 -- Answers that show a clear key or PIN, and what was granted then.
 use Rattle.std.proofs.Common.{◌≡◌, ◌-◌, ◌<◌, ℕ, zero, suc, Bool, true, false, ◌&&◌, ◌||◌, List, [], ◌∷◌, Option, Some, None, refl, sym, ap, ◌∙◌, subst, inl, inr, cond, map, take, drop, slice_get, arith}
-use Rattle.std.specs.Prelude.{◌⊎◌, if◌then◌else◌, Contains}
+use Rattle.std.specs.Prelude.{◌⊎◌, if◌then◌else◌, filter, Contains}
 use Rattle.std.specs.List.{AllByRecursion, list_any}
 use Rattle.std.proofs.lemmas.List.{length-take, take-take}
 use Rattle.std.proofs.lemmas.Option.{slice_get_within}
@@ -16,12 +16,12 @@ use Rattle.hsm_auth.specs.Activities.{covers}
 use Rattle.hsm_auth.specs.Grants.{GivenAt, IsLive}
 use Rattle.hsm_auth.specs.History.{end_of, ends, outcome, live, is_met, next, now}
 use Rattle.hsm_rows.specs.declared.settings.Module.{Module}
-use Rattle.hsm_rows.specs.Table.{RowShape, row_with, host_rows, console_rows, row_A0, row_A6, row_A8, row_BU, row_CA, row_CC, row_DE, row_DG, row_DA, row_EA, row_DC, row_EC, row_BA, row_NG, row_JA, row_CW, row_CY, row_M6, row_M8, row_B2, row_NC, row_NO, row_RA, row_A, row_C, row_VA, row_Q, row_LOG, row_GC, row_FK, rules_of}
-use Rattle.hsm_rows.specs.Rules.{rules_NG, rules_GC}
+use Rattle.hsm_rows.specs.Table.{RowShape, row_with, host_rows, console_rows, row_NG, row_GC, rules_of}
+use Rattle.hsm_rows.proofs.RowLemmas.{all_but}
 use Rattle.hsm_rows.specs.Reading.{ReadText}
 use Rattle.hsm_rows.specs.Clear.{has_clear}
 use Rattle.hsm_answers.specs.Keys.{first_code, type_of}
-use Rattle.hsm_answers.specs.Checks.{check_before, check_after, check_read, fixed_need, needs_of, is_refused}
+use Rattle.hsm_answers.specs.Checks.{early_fault, late_fault, check_read, fixed_need, needs_of, is_refused}
 use Rattle.hsm_answers.specs.Asks.{asked_words, row_ask}
 use Rattle.hsm_answers.specs.Clear.{ShowsClear, IsGrantedAt, IsGivenBefore, IsMarkOf, only_need, clear_pins, components}
 use Rattle.hsm_answers.specs.Messages.{command_of, enabled_row, rows_of, text_after, message_ask, ask_by}
@@ -39,15 +39,19 @@ MarksOnly row = has_clear row ≡ true → IsMarked row
 unmarked : (row : RowShape) → has_clear row ≡ false → MarksOnly row
 unmarked row plain = λ marked. absurd (cc)
 
+host_marked : filter has_clear host_rows ≡ row_NG ∷ []
+unfolding host_rows
+host_marked = refl
+
+console_marked : filter has_clear console_rows ≡ row_GC ∷ []
+unfolding console_rows
+console_marked = refl
+
 host_marks : AllByRecursion MarksOnly host_rows
-unfolding host_rows row_A0 row_A6 row_A8 row_BU row_CA row_CC row_DE row_DG row_DA row_EA row_DC row_EC row_BA row_NG row_JA row_CW row_CY row_M6 row_M8 row_B2 row_NC row_NO row_RA
-host_marks =
-    (unmarked row_A0 refl, (unmarked row_A6 refl, (unmarked row_A8 refl, (unmarked row_BU refl, (unmarked row_CA refl, (unmarked row_CC refl, (unmarked row_DE refl, (unmarked row_DG refl, (unmarked row_DA refl, (unmarked row_EA refl, (unmarked row_DC refl, (unmarked row_EC refl, (unmarked row_BA refl, (λ marked. inl refl, (unmarked row_JA refl, (unmarked row_CW refl, (unmarked row_CY refl, (unmarked row_M6 refl, (unmarked row_M8 refl, (unmarked row_B2 refl, (unmarked row_NC refl, (unmarked row_NO refl, (unmarked row_RA refl, tt)))))))))))))))))))))))
+host_marks = all_but MarksOnly has_clear unmarked host_rows (subst (AllByRecursion MarksOnly) (sym host_marked) (λ marked. inl refl, tt))
 
 console_marks : AllByRecursion MarksOnly console_rows
-unfolding console_rows row_A row_C row_VA row_Q row_LOG row_GC row_FK
-console_marks =
-    (unmarked row_A refl, (unmarked row_C refl, (unmarked row_VA refl, (unmarked row_Q refl, (unmarked row_LOG refl, (λ marked. inr refl, (unmarked row_FK refl, tt)))))))
+console_marks = all_but MarksOnly has_clear unmarked console_rows (subst (AllByRecursion MarksOnly) (sym console_marked) (λ marked. inr refl, tt))
 
 side_marks : (side : Place) → AllByRecursion MarksOnly (rows_of side)
 side_marks Host = host_marks
@@ -75,7 +79,7 @@ enabled_among P m side code row all found = by_disabled P code (rows_of side) ro
 pub is_marked : (m : Module) (side : Place) (code : List ℕ) (row : RowShape) → enabled_row m side code ≡ Some row → has_clear row ≡ true → IsMarked row
 is_marked m side code row found marked = (enabled_among MarksOnly m side code row (side_marks side) found) marked
 
--- where no check fails, none before the entry does and the needs were covered
+-- where no check fails, no early one does and the needs were covered
 passed_before : (before late : Option ℕ) (refused : Bool) → first_code (before ∷ (if refused then Some 17 else None) ∷ late ∷ []) ≡ None → (before ≡ None) × (refused ≡ false)
 passed_before None late false h = (refl, refl)
 passed_before None late true h = absurd (cc)
@@ -89,11 +93,11 @@ record NeedsOne (row : RowShape) (m : Module) (read : ReadText) : Type 0 where
   asks : row_ask m (rules_of row) read (rules_of row).ask ≡ ask.Use (only_need need) (asked_words m (rules_of row) read)
 
 needs_NG : (m : Module) (read : ReadText) → NeedsOne row_NG m read
-unfolding row_NG rules_NG row_ask needs_of
+unfolding row_ask needs_of
 needs_NG m read = record { need = clear_pins; needed = refl; is = inl (refl, refl); asks = refl }
 
 needs_GC : (m : Module) (read : ReadText) → NeedsOne row_GC m read
-unfolding row_GC rules_GC row_ask needs_of type_of
+unfolding row_ask needs_of type_of
 needs_GC m read = record { need = components read; needed = refl; is = inr (refl, refl); asks = refl }
 
 needs_marked : (m : Module) (read : ReadText) (row : RowShape) → IsMarked row → NeedsOne row m read
@@ -152,7 +156,7 @@ pub granted_at : MetCovered → LiveContains → (m : Module) (side : Place) (me
     → (s : ShowsClear m side message e.granted) → IsGrantedAt s.row s.read h i e
 unfolding check_read message_ask
 granted_at met_covered contains m side message h i e asks answers s =
-    let parts = passed_before (check_before m (rules_of s.row) s.read) (check_after m (rules_of s.row) s.read) (is_refused e.granted) s.good in
+    let parts = passed_before (early_fault m (rules_of s.row) s.read) (late_fault m (rules_of s.row) s.read) (is_refused e.granted) s.good in
     let one = needs_marked m s.read s.row (is_marked m side (command_of m side message) s.row s.found s.marked) in
     let words = asked_words m (rules_of s.row) s.read in
     let asked : e.ask ≡ ask.Use (only_need one.need) words =

@@ -1,6 +1,6 @@
 -- Only a console's `A` that bears both officers' words asks for an authorisation.
-use Rattle.std.proofs.Common.{◌≡◌, ℕ, Bool, true, false, ◌&&◌, List, [], ◌∷◌, refl, sym, ap, ◌∙◌}
-use Rattle.std.specs.Prelude.{Option, Some, None, Result, Ok, Err, is_some, if◌then◌else◌, codes, slice_index_or}
+use Rattle.std.proofs.Common.{◌≡◌, ℕ, Bool, true, false, ◌&&◌, List, [], ◌∷◌, refl, sym, ap, subst, ◌∙◌}
+use Rattle.std.specs.Prelude.{Option, Some, None, Result, Ok, Err, is_some, if◌then◌else◌, codes, filter, slice_index_or}
 use Rattle.std.specs.List.{AllByRecursion}
 use Rattle.std.specs.Str.{bytes_eq}
 use Rattle.std.proofs.lemmas.Slice.Eq.{bytes_eq-Decides}
@@ -10,14 +10,15 @@ use Rattle.hsm_auth.specs.declared.entry.Ask.TheVariants as ask
 use Rattle.hsm_auth.specs.Activities.{activity_of}
 use Rattle.hsm_rows.specs.declared.settings.Module.{Module}
 use Rattle.hsm_rows.specs.declared.row.Code.{Code}
-use Rattle.hsm_rows.specs.Table.{RowShape, host_rows, console_rows, row_A0, row_A6, row_A8, row_BU, row_CA, row_CC, row_DE, row_DG, row_DA, row_EA, row_DC, row_EC, row_BA, row_NG, row_JA, row_CW, row_CY, row_M6, row_M8, row_B2, row_NC, row_NO, row_RA, row_A, row_C, row_VA, row_Q, row_LOG, row_GC, row_FK, rules_of}
-use Rattle.hsm_rows.specs.Rules.{RowRules, rules_A0, rules_A6, rules_A8, rules_BU, rules_CA, rules_CC, rules_DE, rules_DG, rules_DA, rules_EA, rules_DC, rules_EC, rules_BA, rules_NG, rules_JA, rules_CW, rules_CY, rules_M6, rules_M8, rules_RA, rules_A, rules_C, rules_LOG, rules_GC, rules_FK}
+use Rattle.hsm_rows.specs.Table.{RowShape, host_rows, console_rows, row_A, rules_of}
+use Rattle.hsm_rows.proofs.RowLemmas.{all_but}
+use Rattle.hsm_rows.specs.Rules.{RowRules}
 use Rattle.hsm_rows.specs.declared.rules.AskKind.{AskKind}
 use Rattle.hsm_rows.specs.declared.rules.AskKind.TheVariants.{UseAsk, LookAsk, RecentAsk, CancelAllAsk, AuthoriseAsk, CancelAsk}
 use Rattle.hsm_rows.specs.Forms.{decimal_from}
 use Rattle.hsm_rows.specs.Reading.{reading, ReadText}
 use Rattle.hsm_answers.specs.Keys.{field_text}
-use Rattle.hsm_answers.specs.Checks.{check_before}
+use Rattle.hsm_answers.specs.Checks.{early_fault}
 use Rattle.hsm_answers.specs.Asks.{ask_of, ask_read, row_ask, empty_ask, authorise, cancel, words_hold, are_digests}
 use Rattle.hsm_answers.specs.Answers.{is_authorise}
 use Rattle.hsm_answers.specs.Clear.{Authorises}
@@ -54,17 +55,23 @@ OnlyA side row = is_authorise (rules_of row).ask ≡ true → (side ≡ Console)
 never : (side : Place) (row : RowShape) → is_authorise (rules_of row).ask ≡ false → OnlyA side row
 never side row other = λ authorises. absurd (cc)
 
+-- whether a row authorises
+abbrev authorises_by : RowShape → Bool
+authorises_by row = is_authorise (rules_of row).ask
+
+of_host : filter authorises_by host_rows ≡ []
+unfolding host_rows
+of_host = refl
+
+of_console : filter authorises_by console_rows ≡ row_A ∷ []
+unfolding console_rows
+of_console = refl
+
 host_only : AllByRecursion (OnlyA Host) host_rows
-unfolding host_rows row_A0 row_A6 row_A8 row_BU row_CA row_CC row_DE row_DG row_DA row_EA row_DC row_EC row_BA row_NG row_JA row_CW row_CY row_M6 row_M8 row_B2 row_NC row_NO row_RA rules_A0 rules_A6 rules_A8 rules_BU rules_CA rules_CC rules_DE rules_DG rules_DA rules_EA rules_DC rules_EC rules_BA rules_NG rules_JA rules_CW rules_CY rules_M6 rules_M8 rules_RA
-host_only =
-    let no : (row : RowShape) → is_authorise (rules_of row).ask ≡ false → OnlyA Host row = never Host in
-    (no row_A0 refl, (no row_A6 refl, (no row_A8 refl, (no row_BU refl, (no row_CA refl, (no row_CC refl, (no row_DE refl, (no row_DG refl, (no row_DA refl, (no row_EA refl, (no row_DC refl, (no row_EC refl, (no row_BA refl, (no row_NG refl, (no row_JA refl, (no row_CW refl, (no row_CY refl, (no row_M6 refl, (no row_M8 refl, (no row_B2 refl, (no row_NC refl, (no row_NO refl, (no row_RA refl, tt)))))))))))))))))))))))
+host_only = all_but (OnlyA Host) authorises_by (never Host) host_rows (subst (AllByRecursion (OnlyA Host)) (sym of_host) tt)
 
 console_only : AllByRecursion (OnlyA Console) console_rows
-unfolding console_rows row_A row_C row_VA row_Q row_LOG row_GC row_FK rules_A rules_C rules_LOG rules_GC rules_FK
-console_only =
-    let no : (row : RowShape) → is_authorise (rules_of row).ask ≡ false → OnlyA Console row = never Console in
-    (λ authorises. (refl, refl), (no row_C refl, (no row_VA refl, (no row_Q refl, (no row_LOG refl, (no row_GC refl, (no row_FK refl, tt)))))))
+console_only = all_but (OnlyA Console) authorises_by (never Console) console_rows (subst (AllByRecursion (OnlyA Console)) (sym of_console) (λ authorises. (refl, refl), tt))
 
 side_only : (side : Place) → AllByRecursion (OnlyA side) (rows_of side)
 side_only Host = host_only
@@ -106,7 +113,7 @@ module _ (m : Module) (a : Activity) (n : ℕ) where
   by_row : (side : Place) (message : List ℕ) (row : RowShape) (r : ReadText) → enabled_row m side (command_of m side message) ≡ Some row
       → reading row (text_after m side message) ≡ Ok r → (side ≡ Console) × (row ≡ row_A)
       → row_ask m (rules_of row) r (rules_of row).ask ≡ ask.Authorise a n → Authorises m side message a n
-  unfolding row_A rules_A row_ask words_hold
+  unfolding row_ask words_hold
   by_row side message row r f e is h =
       by_words side message r is.0 (f ∙ ap (λ (d : RowShape). Some d) is.1) (ap (λ (d : RowShape). reading d (text_after m side message)) (sym is.1) ∙ e)
       (are_digests m.officers (field_text r 2) (field_text r 3)) refl (activity_of (field_text r 0)) refl
@@ -124,7 +131,7 @@ module _ (m : Module) (a : Activity) (n : ℕ) where
       → reading row (text_after m side message) ≡ rd → ask_read m (rules_of row) rd ≡ ask.Authorise a n → Authorises m side message a n
   unfolding ask_read
   by_reading side message row (Err code) f e h = none h
-  by_reading side message row (Ok r) f e h = by_check side message row r (is_some (check_before m (rules_of row) r)) f e h
+  by_reading side message row (Ok r) f e h = by_check side message row r (is_some (early_fault m (rules_of row) r)) f e h
 
   by_enabled : (side : Place) (message : List ℕ) (found : Option RowShape) → enabled_row m side (command_of m side message) ≡ found
       → ask_by m side message found ≡ ask.Authorise a n → Authorises m side message a n

@@ -17,7 +17,7 @@ use Rattle.hsm_rows.specs.declared.rules.AskKind.{AskKind}
 use Rattle.hsm_rows.specs.declared.rules.AskKind.TheVariants.{UseAsk, LookAsk, RecentAsk, CancelAllAsk, AuthoriseAsk, CancelAsk}
 use Rattle.hsm_answers.specs.Keys.{field_text}
 use Rattle.hsm_answers.specs.Values.{word_count}
-use Rattle.hsm_answers.specs.Checks.{check_before, check_after, needs_of}
+use Rattle.hsm_answers.specs.Checks.{early_fault, late_fault, needs_of}
 
 -- the first two of the needs; no row has more
 abbrev pub as_needs : List Activity → Needs
@@ -29,9 +29,9 @@ as_needs (a ∷ b ∷ more) = record { first = Some a; second = Some b }
 abbrev pub empty_ask : Ask
 empty_ask = ask.Use (as_needs []) 0
 
--- the words of the row where no check after the entry fails
+-- the words of the row where no late check fails
 unfoldable pub asked_words : Module → RowRules → ReadText → ℕ
-asked_words m rules r = if is_some (check_after m rules r) then 0 else word_count m rules r rules.words
+asked_words m rules r = if is_some (late_fault m rules r) then 0 else word_count m rules r rules.words
 
 -- whether the two words are the officers', by their digests
 abbrev pub are_digests : List (List ℕ) → List ℕ → List ℕ → Bool
@@ -62,10 +62,10 @@ row_ask m rules r CancelAllAsk = ask.CancelAll
 row_ask m rules r AuthoriseAsk = if words_hold m r then authorise (activity_of (field_text r 0)) (decimal_from 0 (field_text r 1)) else empty_ask
 row_ask m rules r CancelAsk = if bytes_eq (field_text r 0) (codes "*") then ask.CancelAll else cancel (activity_of (field_text r 0))
 
--- the empty ask where a check before the entry fails
+-- the empty ask where an early check fails
 unfoldable pub ask_read : Module → RowRules → Result ReadText Code → Ask
 ask_read m rules (Err code) = empty_ask
-ask_read m rules (Ok r) = if is_some (check_before m rules r) then empty_ask else row_ask m rules r rules.ask
+ask_read m rules (Ok r) = if is_some (early_fault m rules r) then empty_ask else row_ask m rules r rules.ask
 
 -- what a message of the row asks; the text is what follows the command code or word
 unfoldable pub ask_of : Module → RowShape → List ℕ → Ask

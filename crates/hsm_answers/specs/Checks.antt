@@ -61,9 +61,9 @@ unfoldable pub parts_fault : Module → RowRules → ReadText → Option Secret 
 parts_fault m rules r None = None
 parts_fault m rules r (Some s) = if repeats_part (secret_key m rules r 0 s) then Some 75 else None
 
--- the checks after the fields and before the entry
-unfoldable pub check_before : Module → RowRules → ReadText → Option ℕ
-check_before m rules r = first_code (keys_fault m rules r rules.keys ∷ permit_fault m rules r ∷ parts_fault m rules r rules.parts_differ ∷ [])
+-- the early checks, after the fields: their code is answered whatever the entry, which asks nothing
+unfoldable pub early_fault : Module → RowRules → ReadText → Option ℕ
+early_fault m rules r = first_code (keys_fault m rules r rules.keys ∷ permit_fault m rules r ∷ parts_fault m rules r rules.parts_differ ∷ [])
 
 -- the category of an act
 abbrev pub category_of : Act → Category
@@ -121,10 +121,10 @@ compared_fault m rules r None = None
 compared_fault m rules r (Some k) =
     if is_absent r k || bytes_eq (map digit_value (field_text r k)) (map digit_value (row_value m rules r rules.value)) then None else Some 1
 
--- the checks after the entry
-unfoldable pub check_after : Module → RowRules → ReadText → Option ℕ
-check_after m rules r = first_code (checks_fault m rules r ∷ compared_fault m rules r rules.compared ∷ [])
+-- the late checks: their code comes after that of a need which was not covered at the entry
+unfoldable pub late_fault : Module → RowRules → ReadText → Option ℕ
+late_fault m rules r = first_code (checks_fault m rules r ∷ compared_fault m rules r rules.compared ∷ [])
 
 -- the code of the first check that fails, of those after the fields
 unfoldable pub check_read : Module → RowRules → ReadText → Granted → Option ℕ
-check_read m rules r g = first_code (check_before m rules r ∷ entry_fault g ∷ check_after m rules r ∷ [])
+check_read m rules r g = first_code (early_fault m rules r ∷ entry_fault g ∷ late_fault m rules r ∷ [])

@@ -1,8 +1,11 @@
 -- The keys that a message's checks open under the LMK, as entries of a cache.
-use Rattle.std.specs.Prelude.{ℕ, ◌&&◌, if◌then◌else◌, List, [], ◌∷◌, ◌++◌, Option, Some, None, is_some, Result, Ok, Err}
+use Rattle.std.specs.Prelude.{◌≡◌, ℕ, ◌&&◌, if◌then◌else◌, List, [], ◌∷◌, ◌++◌, Option, Some, None, is_some, Result, Ok, Err}
 use Rattle.hsm_types.specs.declared.types.KeyType.{KeyType}
+use Rattle.hsm_lmk.specs.Cache.{Agrees, kept_all}
+use Rattle.hsm_lmk.specs.Caches.{capacity_of, kept_in}
 use Rattle.hsm_lmk.specs.Opened.{opened}
 use Rattle.hsm_lmk.specs.Sealing.{wrap}
+use Rattle.hsm_lmk.specs.declared.kept.KeyCache.{KeyCache}
 use Rattle.hsm_lmk.specs.declared.kept.KeyEntry.{KeyEntry}
 use Rattle.hsm_auth.specs.declared.activity.Place.{Place}
 use Rattle.hsm_auth.specs.declared.activity.Place.TheVariants.{Host, Console}
@@ -16,6 +19,16 @@ use Rattle.hsm_rows.specs.Rules.{RowRules}
 use Rattle.hsm_rows.specs.Table.{RowShape, rules_of}
 use Rattle.hsm_answers.specs.Keys.{KeyData, field_text, key_data, key_fault, set_of, type_of}
 use Rattle.hsm_answers.specs.Messages.{command_of, enabled_row, text_after}
+
+-- each key that the cache keeps is the one that its text opens to under the module's LMK
+abbrev pub IsCacheOf : Module → KeyCache → Type 0
+IsCacheOf m cache = Agrees m.lmk (kept_in cache).entries
+
+-- these keys were opened one after another: the cache keeps them as it is to, and is one of the module's
+pub record Opens (m : Module) (before after : KeyCache) (keys : List KeyEntry) : Type 0 where
+  pub agrees : IsCacheOf m after
+  pub capacity : capacity_of after ≡ capacity_of before
+  pub kept : kept_in after ≡ kept_all (capacity_of before) (kept_in before) keys
 
 -- the entry of a key text of the type
 abbrev pub entry_for : List (List (List ℕ)) → KeyType → Option KeyData → List KeyEntry

@@ -13,6 +13,15 @@ use Rattle.hsm_rows.specs.Forms.{is_no_space}
 use Rattle.hsm_answers.specs.Asks.{empty_ask, ask_of}
 use Rattle.hsm_answers.specs.Answers.{answer, no_code}
 
+-- the least length of a host's message: a header and a command code
+abbrev pub least_length : Module → ℕ
+least_length m = m.header + 2
+
+-- the least length of a message: the console's have one byte
+abbrev pub least_for : Module → Place → ℕ
+least_for m Host = least_length m
+least_for m Console = 1
+
 -- the command code or word
 abbrev pub command_of : Module → Place → List ℕ → List ℕ
 command_of m Host message = take 2 (drop m.header message)

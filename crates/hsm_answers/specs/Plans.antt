@@ -14,22 +14,22 @@ use Rattle.hsm_answers.specs.declared.plans.Checked.{Checked}
 use Rattle.hsm_answers.specs.declared.plans.Checked.TheVariants.{Unread, Failed, Passed}
 use Rattle.hsm_answers.specs.Keys.{first_code}
 use Rattle.hsm_answers.specs.Values.{values}
-use Rattle.hsm_answers.specs.Checks.{check_before, check_after, entry_fault}
+use Rattle.hsm_answers.specs.Checks.{early_fault, late_fault, entry_fault}
 use Rattle.hsm_answers.specs.Asks.{ask_of}
 
 -- the number of a code
 abbrev pub code_number : Code → ℕ
 code_number code = code.0
 
--- the checks before the entry fail
+-- an early check fails
 pub record HasFailed (m : Module) (row : RowShape) (r : ReadText) (code : ℕ) (trailer : List ℕ) : Type 0 where
-  pub fault : check_before m (rules_of row) r ≡ Some code
+  pub fault : early_fault m (rules_of row) r ≡ Some code
   pub rest : r.trailer ≡ trailer
 
--- the checks before the entry hold, and `late` is what those after it find
-pub record HasPassed (m : Module) (row : RowShape) (r : ReadText) (late : Option ℕ) (trailer : List ℕ) : Type 0 where
-  pub before : check_before m (rules_of row) r ≡ None
-  pub after : check_after m (rules_of row) r ≡ late
+-- the early checks hold, and this is what the late ones find
+pub record HasPassed (m : Module) (row : RowShape) (r : ReadText) (found : Option ℕ) (trailer : List ℕ) : Type 0 where
+  pub early : early_fault m (rules_of row) r ≡ None
+  pub late : late_fault m (rules_of row) r ≡ found
   pub rest : r.trailer ≡ trailer
 
 -- the checks of what was read came to this, and this is the trailer that is repeated

@@ -16,9 +16,9 @@ use hsm_text::Reply;
 pub enum Checked {
     /// The fields don't read: the code.
     Unread(Code),
-    /// A check before the entry fails: its code.
+    /// An early check fails: its code.
     Failed(Code),
-    /// The checks before the entry hold: the code of the first check after it that fails.
+    /// The early checks hold: the code of the first late check that fails.
     Passed(Option<Code>),
 }
 

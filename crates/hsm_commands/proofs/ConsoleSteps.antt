@@ -10,7 +10,7 @@ use Rattle.hsm_rows.specs.Reading.{reading, ReadText, is_console}
 use Rattle.hsm_answers.specs.declared.plans.Checked.{Checked}
 use Rattle.hsm_answers.specs.declared.plans.Checked.TheVariants.{Unread, Failed, Passed}
 use Rattle.hsm_answers.specs.Keys.{first_code}
-use Rattle.hsm_answers.specs.Checks.{check_before, check_after, check_read, entry_fault}
+use Rattle.hsm_answers.specs.Checks.{early_fault, late_fault, check_read, entry_fault}
 use Rattle.hsm_answers.specs.Values.{values}
 use Rattle.hsm_answers.specs.Answers.{answer, host_answer, console_answer, console_body, is_full, no_code}
 use Rattle.hsm_answers.specs.Plans.{IsChecked, fault_at, code_number}
@@ -52,15 +52,15 @@ text_of : (m : Module) (row : RowShape) (r : ReadText) (g : Granted) (vs : List 
 text_of m row r g vs (Some code) v = refl
 text_of m row r g vs None v = ap (good_text g) (v refl)
 
--- the refusal where the checks before the entry hold
+-- the refusal where the early checks hold
 passed_fault : (m : Module) (row : RowShape) (r : ReadText) (g : Granted) (late : Option ℕ)
-    → check_before m (rules_of row) r ≡ None → check_after m (rules_of row) r ≡ late → check_read m (rules_of row) r g ≡ first_code (entry_fault g ∷ late ∷ [])
+    → early_fault m (rules_of row) r ≡ None → late_fault m (rules_of row) r ≡ late → check_read m (rules_of row) r g ≡ first_code (entry_fault g ∷ late ∷ [])
 unfolding check_read
 passed_fault m row r g late b a = rw (b, a) refl
 
--- the refusal where a check before the entry fails
+-- the refusal where an early check fails
 failed_fault : (m : Module) (row : RowShape) (r : ReadText) (g : Granted) (code : ℕ)
-    → check_before m (rules_of row) r ≡ Some code → check_read m (rules_of row) r g ≡ Some code
+    → early_fault m (rules_of row) r ≡ Some code → check_read m (rules_of row) r g ≡ Some code
 unfolding check_read
 failed_fault m row r g code b = rw b refl
 
@@ -80,7 +80,7 @@ console_read m row (Ok r) g (Failed failed) trailer refused vs h w v =
     (ap (console_body m row r g) (failed_fault m row r g failed.0 h.fault))
 console_read m row (Ok r) g (Passed late) trailer refused vs h w v =
     by_words refused (refuses_words m (rules_of row) r) (console_body m row r g (check_read m (rules_of row) r g)) (text_after (fault_at (Passed late) g) g vs) w
-    (ap (console_body m row r g) (passed_fault m row r g (option_map code_number late) h.before h.after) ∙ text_of m row r g vs (fault_at (Passed late) g) v)
+    (ap (console_body m row r g) (passed_fault m row r g (option_map code_number late) h.early h.late) ∙ text_of m row r g vs (fault_at (Passed late) g) v)
 
 -- what a plan of the console's keeps tells its answer
 pub console_answered : (m : Module) (p : Plan) (g : Granted) → is_console (plan_row p) ≡ true → IsPlanOf m p

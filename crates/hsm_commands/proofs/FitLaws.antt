@@ -176,20 +176,20 @@ module _ (m : Module) (rules : RowRules) (fs : List Field) (r : ReadText) (texts
   ask_stands CancelAllAsk h = tt
 
 -- the tests of a row, one by one
-record Fits (fs : List Field) (rules : RowRules) (ts : List Term) : Type 0 where
-  fields : nat_le (length fs) 12 ≡ true
-  few : nat_le (length ts) 9 ≡ true
-  keys : keys_fit rules.keys ≡ true
-  have : have_pin false rules.checks ≡ true
-  ask : ask_fits fs rules.ask ≡ true
-  parts : meets_all fs rules (parts_demands rules rules.parts_differ) ≡ true
-  pin : meets_all fs rules (pin_demands rules.pin) ≡ true
-  checks : meets_each fs rules (map (check_demands rules.pin) rules.checks) ≡ true
-  value : meets_all fs rules (value_demands rules rules.value) ≡ true
-  words : meets_all fs rules (word_demands rules rules.words) ≡ true
-  terms : meets_each fs rules (map (term_demands rules) ts) ≡ true
+pub record Fits (fs : List Field) (rules : RowRules) (ts : List Term) : Type 0 where
+  pub fields : nat_le (length fs) 12 ≡ true
+  pub few : nat_le (length ts) 9 ≡ true
+  pub keys : keys_fit rules.keys ≡ true
+  pub have : have_pin false rules.checks ≡ true
+  pub ask : ask_fits fs rules.ask ≡ true
+  pub parts : meets_all fs rules (parts_demands rules rules.parts_differ) ≡ true
+  pub pin : meets_all fs rules (pin_demands rules.pin) ≡ true
+  pub checks : meets_each fs rules (map (check_demands rules.pin) rules.checks) ≡ true
+  pub value : meets_all fs rules (value_demands rules rules.value) ≡ true
+  pub words : meets_all fs rules (word_demands rules rules.words) ≡ true
+  pub terms : meets_each fs rules (map (term_demands rules) ts) ≡ true
 
-each_test : (fs : List Field) (rules : RowRules) (ts : List Term) → all_true (all_fit fs rules ts) ≡ true → Fits fs rules ts
+pub each_test : (fs : List Field) (rules : RowRules) (ts : List Term) → all_true (all_fit fs rules ts) ≡ true → Fits fs rules ts
 each_test fs rules ts h =
     let fields = and_parts _ _ h in
     let few = and_parts _ _ fields.1 in

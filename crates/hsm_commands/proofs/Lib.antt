@@ -13,6 +13,7 @@ pub mod RoomLaws
 pub mod MacFit
 pub mod ComponentLaws
 pub mod FitLaws
+pub mod AskLimits
 pub mod HexSteps
 pub mod MacLaws
 pub mod TableRows

@@ -15,10 +15,10 @@ use Rattle.hsm_answers.specs.Plans.{IsPlanned, IsChecked, AreFields, fields_text
 use Rattle.hsm_auth.specs.History.{CanAsk}
 use Rattle.std.specs.Option.{option_map}
 use Rattle.hsm_auth.specs.declared.entry.Ask.{Ask}
-use Rattle.hsm_commands.specs.declared.terms.HeldParts.{HeldParts}
+use Rattle.hsm_commands.specs.declared.reply_fields.HeldParts.{HeldParts}
 use Rattle.hsm_commands.specs.Plans.{AreRead, AreChecked, IsFollowed, IsHeld, IsReady, FitsText}
 
--- the checks before the entry held, and none after it fails, where the message is answered 00
+-- the early checks held, and no late one fails, where the message is answered 00
 late_none : (refused : Bool) (late : Option Code) → first_code ((if refused then Some 17 else None) ∷ option_map code_number late ∷ []) ≡ None → late ≡ None
 late_none true late h = let z : ⊥ = cc in absurd z
 late_none false None h = refl
@@ -69,7 +69,7 @@ module _ (m : Module) (row : RowShape) (text : List ℕ) where
   checked_is : (r : ReadText) (checked : Checked) → AreChecked m (rules_of row) r checked → IsChecked m row (Ok r) checked r.trailer
   checked_is r (Unread code) h = absurd h
   checked_is r (Failed code) h = record { fault = h; rest = refl }
-  checked_is r (Passed late) h = record { before = h.0; after = h.1; rest = refl }
+  checked_is r (Passed late) h = record { early = h.0; late = h.1; rest = refl }
 
   pub read_planned : (ask : Ask) (checked : Checked) (r : ReadText) → reading row text ≡ Ok r → ask ≡ ask_read m (rules_of row) (Ok r) → CanAsk ask
       → AreChecked m (rules_of row) r checked → length r.trailer ≤ 33 → IsPlanned m row text ask checked r.trailer (λ g. fields_text m (rules_of row) row g r)

@@ -5,7 +5,7 @@ use Rattle.hsm_rows.specs.Rules.{RowRules}
 use Rattle.hsm_rows.specs.Table.{Term}
 use Rattle.hsm_rows.specs.Reading.{ReadText}
 use Rattle.hsm_answers.specs.Values.{value_of, value, first_of}
-use Rattle.hsm_commands.specs.declared.terms.Entry.{Entry}
+use Rattle.hsm_commands.specs.declared.reply_fields.Entry.{Entry}
 use Rattle.hsm_commands.specs.Request.{module_of, row_rules, texts_of, Meets, MeetsEach}
 use Rattle.hsm_commands.specs.Demands.{Demand}
 use Rattle.hsm_commands.specs.Plans.{IsAtEntry}

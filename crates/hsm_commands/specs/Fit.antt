@@ -2,8 +2,6 @@
 use Rattle.std.specs.Prelude.{ℕ, zero, suc, Bool, true, false, not, ◌&&◌, ◌||◌, ◌==◌, nat_le, nat_lt, if◌then◌else◌, List, [], ◌∷◌, length, map, Option, Some, None}
 use Rattle.hsm_rows.specs.declared.row.Form.{Form}
 use Rattle.hsm_rows.specs.declared.row.Form.TheVariants as form
-use Rattle.hsm_rows.specs.declared.row.Family.{Family}
-use Rattle.hsm_rows.specs.declared.row.Family.TheVariants as family
 use Rattle.hsm_rows.specs.declared.row.Field.{Field}
 use Rattle.hsm_rows.specs.declared.row.Secret.{Secret}
 use Rattle.hsm_rows.specs.declared.row.Secret.TheVariants as secret
@@ -369,21 +367,3 @@ all_true (b ∷ bs) = b && all_true bs
 -- the row is the console's or has a reply code of two characters, and its rules fit its forms
 unfoldable pub rules_fit : RowShape → Bool
 rules_fit row = ((is_console row || length row.reply == 2) && room_fits row.fields row.terms) && all_true (all_fit row.fields (rules_of row) row.terms)
-
--- the family is that of the data commands
-abbrev pub is_data : Family → Bool
-is_data family.Data = true
-is_data _ = false
-
--- the family is the console's
-abbrev pub is_console_family : Family → Bool
-is_console_family family.Console = true
-is_console_family _ = false
-
--- the rules of the row fit, and it echoes no text
-abbrev pub fits_console : RowShape → Bool
-fits_console row = rules_fit row && not (echoes row.terms)
-
--- the rules of the row fit, it is of a host's family, and it echoes a text only if it is a data command's
-abbrev pub fits_host : RowShape → Bool
-fits_host row = rules_fit row && (not (is_console_family row.family) && (is_data row.family || not (echoes row.terms)))

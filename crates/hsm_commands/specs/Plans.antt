@@ -19,14 +19,14 @@ use Rattle.hsm_rows.specs.Standing.{IsText, EachText}
 use Rattle.hsm_answers.specs.declared.plans.Checked.{Checked}
 use Rattle.hsm_answers.specs.declared.plans.Checked.TheVariants.{Unread, Failed, Passed}
 use Rattle.hsm_answers.specs.Keys.{field_text}
-use Rattle.hsm_answers.specs.Checks.{check_before, check_after}
+use Rattle.hsm_answers.specs.Checks.{early_fault, late_fault}
 use Rattle.hsm_answers.specs.Asks.{words_hold}
 use Rattle.hsm_answers.specs.Answers.{is_authorise, is_present}
 use Rattle.hsm_answers.specs.Pins.{pin_of}
 use Rattle.hsm_answers.specs.Values.{row_value, chain_value, first_of, spaced}
 use Rattle.hsm_answers.specs.Plans.{IsPlanned, code_number, fields_text}
 use Rattle.hsm_commands.specs.declared.keys.OpenedKeys.{OpenedKeys}
-use Rattle.hsm_commands.specs.declared.terms.HeldParts.{HeldParts}
+use Rattle.hsm_commands.specs.declared.reply_fields.HeldParts.{HeldParts}
 use Rattle.hsm_commands.specs.declared.plan.Plan.{Plan}
 use Rattle.hsm_commands.specs.Opened.{KeysStand, KeysHold}
 use Rattle.hsm_commands.specs.Demands.{AllMet, EachMet, parts_demands, pin_demands, check_demands, value_demands, word_demands, term_demands, IsLeft, have_pin, pin_there, pin_at_end, key_drawn, terms_room}
@@ -74,6 +74,10 @@ abbrev pub echoes : List Term → Bool
 echoes (term (Given k) ∷ []) = true
 echoes _ = false
 
+-- where the row echoes, the reply before its answer and the text have at most 65,534 bytes
+abbrev pub FitsEcho : RowShape → List ℕ → List ℕ → Type 0
+FitsEcho row reply text = echoes row.terms ≡ true → length reply + length text ≤ 65534
+
 -- reply fields of this size, with a space before each, are short, or the row echoes and its text has a count of 4 digits, them, and the trailer
 abbrev pub FitsText : Bool → ℕ → List ℕ → List ℕ → Type 0
 FitsText echo size text trailer = (size ≤ 40000) ⊎ ((echo ≡ true) × (3 + size + length trailer ≤ length text))
@@ -105,8 +109,8 @@ plan_read p = read_text_of p.fields
 -- what the checks of a message whose fields were read came to
 abbrev pub AreChecked : Module → RowRules → ReadText → Checked → Type 0
 AreChecked m rules r (Unread code) = ⊥
-AreChecked m rules r (Failed code) = check_before m rules r ≡ Some code.0
-AreChecked m rules r (Passed late) = (check_before m rules r ≡ None) × (check_after m rules r ≡ option_map code_number late)
+AreChecked m rules r (Failed code) = early_fault m rules r ≡ Some code.0
+AreChecked m rules r (Passed late) = (early_fault m rules r ≡ None) × (late_fault m rules r ≡ option_map code_number late)
 
 -- what its checks leave, where none fails
 pub record IsHeld (m : Module) (rules : RowRules) (r : ReadText) (held : HeldParts) : Type 0 where

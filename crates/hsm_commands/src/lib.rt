@@ -1,28 +1,29 @@
 //! One plan for the messages of all rows: the rules of a row's table are followed as they stand there.
 #![tactic(auto)]
 
-mod authenticate;
-mod card;
-mod check;
-mod clear;
+mod clear_pins;
+mod components;
+mod data_checks;
+mod early_checks;
+mod fields;
 mod fit;
-mod found;
-mod given;
-mod joining;
+mod key_checks;
 mod keys;
-mod late;
-mod lists;
+mod late_checks;
 mod mac;
+mod message_checks;
 mod needs;
+mod officers;
 mod pins;
 mod plan;
+mod reply_console;
+mod reply_fields;
+mod reply_pins;
 mod request;
-mod terms;
-mod texts;
 mod value;
-mod values;
-mod words;
-mod written;
+mod value_card;
+mod value_mac;
+mod value_pin;
 
-pub use fit::{console_rows_followed, fits_followed, host_rows_followed};
+pub use fit::{asks_within_limits, console_rows_followed, fits_followed, host_rows_followed};
 pub use plan::{Plan, finish, finish_cached, prepare, prepare_cached};

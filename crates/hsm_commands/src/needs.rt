@@ -9,11 +9,11 @@ ghost use Rattle.hsm_commands.specs.Demands.{word_demands};
 ghost use Rattle.hsm_commands.specs.Needs.{after_need};
 ghost use Rattle.hsm_commands.specs.Request.{Meets, Leaves, module_of, row_rules, texts_of};
 
+use crate::fields::{format_of, number_at, text_of};
+use crate::reply_fields::HeldParts;
+use crate::reply_pins::fill_length;
 use crate::request::Request;
-use crate::terms::HeldParts;
-use crate::texts::{format_of, number_at, text_of};
 use crate::value::held_pin;
-use crate::written::fill_length;
 use hsm_answers::{host_activity, scheme_named, type_by_pair, type_of_code, wrapper_type};
 use hsm_auth::{Activity, Needs};
 use hsm_rows::{ActUse, FixedNeed, TypeSource, Words};

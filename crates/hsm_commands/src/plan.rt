@@ -1,21 +1,19 @@
 //! Plans of messages.
 ghost use Rattle.std.specs.Prelude.{◌≡◌, ◌+◌, ◌^◌, ◌<◌, ◌≤◌, ◌++◌, [], true, false, length};
 ghost use Rattle.hsm_auth.specs.History.{CanAsk, Fits};
-ghost use Rattle.hsm_lmk.specs.Cache.{Agrees, kept_all};
-ghost use Rattle.hsm_lmk.specs.Caches.{capacity_of, kept_in};
 ghost use Rattle.hsm_rows.specs.Reading.{is_console, read_text_of};
 ghost use Rattle.hsm_rows.specs.Table.{shape_of, rules_of};
 ghost use Rattle.hsm_answers.specs.Answers.{answer, is_full};
 ghost use Rattle.hsm_answers.specs.Asks.{ask_of};
-ghost use Rattle.hsm_answers.specs.Kept.{opened_by};
+ghost use Rattle.hsm_answers.specs.Kept.{IsCacheOf, Opens, opened_by};
 ghost use Rattle.hsm_answers.specs.Values.{first_of, values};
 ghost use Rattle.hsm_commands.specs.Demands.{terms_room};
-ghost use Rattle.hsm_commands.specs.Plans.{echoes, plan_row, plan_text, plan_ask, plan_read, written_fields, IsPlanOf, IsFollowed, IsReady};
+ghost use Rattle.hsm_commands.specs.Plans.{FitsEcho, plan_row, plan_text, plan_ask, plan_read, written_fields, IsPlanOf, IsFollowed, IsReady};
 
-use crate::found::{Found, check_message, refused};
+use crate::message_checks::{Found, check_message, refused};
+use crate::officers::refuses_words;
+use crate::reply_fields::{Entry, key_at_entry, pin_at_entry, put_spaced, put_terms};
 use crate::request::Request;
-use crate::terms::{Entry, key_at_entry, pin_at_entry, put_spaced, put_terms};
-use crate::words::refuses_words;
 use arrayvec::ArrayVec;
 use hsm_answers::laws::planned_answer;
 use hsm_answers::{Checked, first_of, put_code};
@@ -103,16 +101,14 @@ pub fn prepare_cached<'m>(
     row: &'static Row,
     text: &'m [u8],
 ) -> Plan<'m>
-    requires agrees { Agrees «module».now.lmk (kept_in cache.old).entries }
+    requires cache { IsCacheOf «module».now cache.old }
     requires row { IsFollowed (shape_of row.now) }
     ensures row { plan_row result ≡ shape_of row.now }
     ensures text { plan_text result ≡ text.now }
     ensures ask { plan_ask result ≡ ask_of «module».now (shape_of row.now) text.now }
     ensures may { CanAsk (plan_ask result) }
     ensures plan { IsPlanOf «module».now result }
-    ensures agrees { Agrees «module».now.lmk (kept_in cache.new).entries }
-    ensures capacity { capacity_of cache.new ≡ capacity_of cache.old }
-    ensures kept { kept_in cache.new ≡ kept_all (capacity_of cache.old) (kept_in cache.old) (opened_by «module».now (shape_of row.now) text.now) }
+    ensures cache { Opens «module».now cache.old cache.new (opened_by «module».now (shape_of row.now) text.now) }
 {
     texts_stand();
     match read_fields(row, text) {
@@ -167,7 +163,7 @@ fn put_host(
     requires plan { IsPlanOf «module».now plan.now }
     requires place { first_of granted.now < 2 ^ 63 }
     requires room { length reply.old ≤ 255 }
-    requires whole { echoes (plan_row plan.now).terms ≡ true → length reply.old + length (plan_text plan.now) ≤ 65534 }
+    requires whole { FitsEcho (plan_row plan.now) reply.old (plan_text plan.now) }
     ensures { reply.new ≡ reply.old ++ answer «module».now (plan_row plan.now) (plan_text plan.now) granted.now }
 {
     planned_answer();
@@ -196,7 +192,7 @@ fn put_console(
     requires plan { IsPlanOf «module».now plan.now }
     requires place { first_of granted.now < 2 ^ 63 }
     requires room { length reply.old ≤ 255 }
-    requires whole { echoes (plan_row plan.now).terms ≡ true → length reply.old + length (plan_text plan.now) ≤ 65534 }
+    requires whole { FitsEcho (plan_row plan.now) reply.old (plan_text plan.now) }
     ensures { reply.new ≡ reply.old ++ answer «module».now (plan_row plan.now) (plan_text plan.now) granted.now }
 {
     if plan.wrong_words {
@@ -225,6 +221,7 @@ fn put_console(
 /// A host's is the reply code, the error code, with 00 the reply fields, and the trailer. The console's is `OK` with its
 /// fields each after one space, or `NO` and a two-digit code, `WORDS` or `FULL`. `WORDS` comes where the text reads and
 /// its words aren't the officers', `FULL` where no more grants fit.
+/// A row that repeats its text (B2) asks that the reply before it and the text fit.
 pub fn finish_cached(
     module: &Module,
     cache: &KeyCache,
@@ -235,7 +232,7 @@ pub fn finish_cached(
     requires plan { IsPlanOf «module».now plan.now }
     requires fits { Fits (plan_ask plan.now) granted.now }
     requires room { length reply.old ≤ 255 }
-    requires whole { echoes (plan_row plan.now).terms ≡ true → length reply.old + length (plan_text plan.now) ≤ 65534 }
+    requires whole { FitsEcho (plan_row plan.now) reply.old (plan_text plan.now) }
     ensures { reply.new ≡ reply.old ++ answer «module».now (plan_row plan.now) (plan_text plan.now) granted.now }
 {
     if is_console(plan.row) {
@@ -250,7 +247,7 @@ pub fn finish(module: &Module, plan: &Plan<'_>, granted: &Granted, reply: &mut R
     requires plan { IsPlanOf «module».now plan.now }
     requires fits { Fits (plan_ask plan.now) granted.now }
     requires room { length reply.old ≤ 255 }
-    requires whole { echoes (plan_row plan.now).terms ≡ true → length reply.old + length (plan_text plan.now) ≤ 65534 }
+    requires whole { FitsEcho (plan_row plan.now) reply.old (plan_text plan.now) }
     ensures { reply.new ≡ reply.old ++ answer «module».now (plan_row plan.now) (plan_text plan.now) granted.now }
 {
     finish_cached(module, &KeyCache::none(), plan, granted, reply);

@@ -1,27 +1,25 @@
 //! The value of a message, which is written or compared.
 ghost use Rattle.std.specs.Prelude.{◌≡◌, ◌≤◌, ◌<◌, IsTrue, length, true, None, Some};
 ghost use Rattle.std.specs.List.{list_all};
-ghost use Rattle.std.specs.Option.{option_map};
 ghost use Rattle.hsm_types.specs.Pins.{is_decimal};
 ghost use Rattle.hsm_rows.specs.Standing.{AreDigits};
 ghost use Rattle.hsm_answers.specs.Keys.{field_text};
 ghost use Rattle.hsm_answers.specs.Pins.{given_pin, pin_account};
 ghost use Rattle.hsm_answers.specs.Values.{row_value, chain_value, index_at};
 ghost use Rattle.hsm_commands.specs.declared.value.Written.TheVariants.{Nothing};
-ghost use Rattle.hsm_answers.specs.Checks.{checks_fault, compared_fault};
-ghost use Rattle.hsm_answers.specs.Plans.{code_number};
+ghost use Rattle.hsm_answers.specs.Checks.{checks_fault};
 ghost use Rattle.hsm_commands.specs.Demands.{IsTwelveDigits, account_field, holds_pin, value_demands};
 ghost use Rattle.hsm_commands.specs.Written.{written_text};
 ghost use Rattle.hsm_commands.specs.Request.{Meets, Leaves, module_of, row_rules, texts_of};
 
-use crate::authenticate::mac_texts;
-use crate::card::cvv_text;
+use crate::fields::{digits_of, number_at, text_of};
 use crate::keys::{OpenedKeys, held_key};
 use crate::request::Request;
-use crate::texts::{digits_of, number_at, text_of};
-use crate::values::{OffsetAsked, offset_text, pvv_text};
-use hsm_answers::{compared, pair_of};
-use hsm_rows::{Code, PinSource, ValueSource};
+use crate::value_card::cvv_text;
+use crate::value_mac::mac_texts;
+use crate::value_pin::{OffsetAsked, offset_text, pvv_text};
+use hsm_answers::pair_of;
+use hsm_rows::{PinSource, ValueSource};
 use hsm_types::Pin;
 
 // The characters of a value.
@@ -171,21 +169,5 @@ pub(crate) fn value_of(
             )))
         }
         ValueSource::MacOf(f) => mac_texts(request, keys, &f),
-    }
-}
-
-// 01 where the text of the compared field isn't the value.
-#[tactic(auto, unfolding(hsm_answers::specs::Checks::compared_fault))]
-pub(crate) fn compared_code(
-    request: &Request<'_, '_>,
-    field: Option<u8>,
-    value: &Written,
-) -> Option<Code>
-    requires { written_text value.now ≡ row_value (module_of request.now) (row_rules request.now) (texts_of request.now) (row_rules request.now).value }
-    ensures { option_map code_number result ≡ compared_fault (module_of request.now) (row_rules request.now) (texts_of request.now) field }
-{
-    match field {
-        Some(k) => compared(text_of(request, k), value.text()),
-        None => None,
     }
 }

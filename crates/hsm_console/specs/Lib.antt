@@ -1,1 +1,1 @@
-pub mod Plans
+pub use Rattle.hsm_commands.specs.Plans

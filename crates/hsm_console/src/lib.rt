@@ -1,7 +1,4 @@
-//! Plans of the console's texts: officers authorise activities and cancel them, look at grants, numbers and the last
-//! entries, draw components and form keys.
+//! Plans of the console's texts A, C, VA, Q, LOG, GC and FK: those of `hsm_commands`, which follows the rules of each row.
 #![tactic(auto)]
 
-mod plan;
-
-pub use plan::{ConsolePlan, finish, prepare};
+pub use hsm_commands::{Plan as ConsolePlan, console_rows_followed, finish, prepare};

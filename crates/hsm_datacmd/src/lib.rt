@@ -1,6 +1,7 @@
-//! Plans of the data commands: card values, MACs, an echo and the module's state.
+//! Plans of the data commands CW, CY, M6, M8, B2, NC, NO and RA: those of `hsm_commands`, which follows the rules of each
+//! row.
 #![tactic(auto)]
 
-mod plan;
-
-pub use plan::{DataPlan, finish, prepare, prepare_cached};
+pub use hsm_commands::{
+    Plan as DataPlan, finish, finish_cached, host_rows_followed, prepare, prepare_cached,
+};

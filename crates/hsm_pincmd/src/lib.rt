@@ -1,6 +1,7 @@
-//! Plans of the PIN commands: translation of PIN blocks, offsets and PVVs, and clear PINs.
+//! Plans of the PIN commands CA, CC, DE, DG, DA, DC, EA, EC, BA, NG and JA: those of `hsm_commands`, which follows the
+//! rules of each row.
 #![tactic(auto)]
 
-mod plan;
-
-pub use plan::{PinPlan, finish, finish_cached, prepare, prepare_cached};
+pub use hsm_commands::{
+    Plan as PinPlan, finish, finish_cached, host_rows_followed, prepare, prepare_cached,
+};

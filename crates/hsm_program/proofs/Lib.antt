@@ -11,6 +11,7 @@ pub mod Opening
 pub mod Joining
 pub mod Served
 pub mod Apart
+pub mod Gates
 pub mod Printing
 pub mod LocalLaws
 pub mod MadeLaws

@@ -6,7 +6,7 @@ use Rattle.hsm_rows.specs.declared.settings.Module.{Module}
 use Rattle.hsm_config.specs.Configs.{module_of}
 use Rattle.hsm_make.specs.Messages.{made_text}
 use Rattle.hsm_make.specs.Settings.{made_config, made_module}
-use Rattle.hsm_make_said.specs.Said.{made_said}
+use Rattle.law_made_scripts.specs.Said.{made_said}
 use Rattle.hsm_session.specs.declared.script.ScriptEnd.{ScriptEnd}
 use Rattle.hsm_session.specs.declared.script.ScriptFault.{ScriptFault}
 use Rattle.hsm_session.specs.declared.script.ScriptFault.TheVariants.{Line}

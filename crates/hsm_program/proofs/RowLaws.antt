@@ -5,13 +5,13 @@ use Rattle.std.specs.Str.{bytes_eq}
 use Rattle.std.proofs.lemmas.Bool.{cases_Bool}
 use Rattle.std.proofs.lemmas.Bool.Decides.{nat_tests}
 use Rattle.std.proofs.lemmas.Slice.Eq.{bytes_eq-Decides}
-use Rattle.hsm_rows.specs.Table.{RowShape, row_with, host_rows, row_A0, row_A6, row_A8, row_BU, row_CA, row_CC, row_DE, row_DG, row_DA, row_EA, row_DC, row_EC, row_BA, row_NG, row_JA, row_CW, row_CY, row_M6, row_M8, row_B2, row_NC, row_NO, row_RA}
+use Rattle.hsm_rows.specs.Table.{RowShape, row_with, host_rows}
 
 abbrev has_short_code : RowShape → Bool
 has_short_code row = length row.code == 2
 
 host_codes_are_short : list_all has_short_code host_rows ≡ true
-unfolding host_rows row_A0 row_A6 row_A8 row_BU row_CA row_CC row_DE row_DG row_DA row_EA row_DC row_EC row_BA row_NG row_JA row_CW row_CY row_M6 row_M8 row_B2 row_NC row_NO row_RA
+unfolding host_rows
 host_codes_are_short = refl
 
 both : (a b : Bool) → a && b ≡ true → (a ≡ true) × (b ≡ true)

@@ -10,7 +10,7 @@ use Rattle.hsm_desk.specs.Passes.{PassView, IsWhole, OnlyKin, number}
 use Rattle.hsm_io.specs.Sides.{DoorSide, SeedSide}
 use Rattle.hsm_rows.specs.declared.settings.Module.{Module}
 use Rattle.hsm_server.specs.Lanes.{EachLane, IsReady, LaneState, LaneView, Ran, place_of, message_count}
-use Rattle.hsm_session.specs.Plans.{least_for}
+use Rattle.hsm_answers.specs.Messages.{least_for}
 use Rattle.hsm_program.specs.Headline.{Setting, module_in}
 use Rattle.hsm_program.specs.Lanes.{AreJoined, AreLanes, IsNewLane, IsSpan, seat, step_of}
 use Rattle.hsm_program.specs.Serving.{ServedBy}

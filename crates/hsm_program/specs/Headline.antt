@@ -21,7 +21,7 @@ use Rattle.hsm_rows.specs.Reading.{ReadText}
 use Rattle.hsm_rows.specs.Table.{RowShape}
 use Rattle.hsm_server.specs.Lanes.{CountsHits, IsServed, LaneView, Served, all_entries, all_reports, bytes_of, nothing_kept, place_of, message_count}
 use Rattle.hsm_session.specs.Connections.{HaveMoments, Hears, Leaves, WritesAnswers, framed_answers}
-use Rattle.hsm_session.specs.Plans.{least_for}
+use Rattle.hsm_answers.specs.Messages.{least_for}
 use Rattle.hsm_config.specs.Configs.{ports_of}
 
 -- What serving was given: the configuration and the seed, and where the bench tells them the connections that were to come at each port and the

@@ -11,9 +11,10 @@ use Rattle.hsm_rows.specs.declared.settings.Module.{Module}
 use Rattle.hsm_server.specs.declared.lane.Lane.{Lane}
 use Rattle.hsm_server.specs.declared.lane.LaneEnd.{LaneEnd}
 use Rattle.hsm_server.specs.Lanes.{LaneState, nothing_kept, place_of}
-use Rattle.hsm_session.specs.Plans.{least_for}
+use Rattle.hsm_answers.specs.Messages.{least_for}
 use Rattle.hsm_program.specs.declared.lanes.LanesFault.{LanesFault}
 use Rattle.hsm_program.specs.declared.lanes.LanesFault.TheVariants.{Memory, Door}
+use Rattle.hsm_program.specs.Serving.{AsksGatesOf}
 
 -- The step of the pass of this number where there are `count` passes: the span, which is the greatest power of two that is at most `count`, or twice that
 -- where the pass was split at this span or comes from such a split.
@@ -76,6 +77,16 @@ pub record OthersStay (port : ℕ) (before after : DoorSide) : Type 0 where
 abbrev pub IsRefused : ℕ → ℕ → DoorSide → DoorSide → LanesFault → Type 0
 IsRefused number port before after Memory = Unit {0}
 IsRefused number port before after (Door lane) = (lane ≡ number) × (after.bad_port ≡ port) × Rose before.faults after.faults
+
+-- a gate was asked for this lane, but where its door was refused
+abbrev pub AsksGate : ℕ → List ℕ → List ℕ → LanesFault → Type 0
+AsksGate number before after Memory = after ≡ before ++ number ∷ []
+AsksGate number before after (Door lane) = (lane ≡ number) × (after ≡ before)
+
+-- gates were asked for the lanes from 0 upwards, as far as one whose door was refused
+abbrev pub AskGates : List ℕ → List ℕ → LanesFault → Type 0
+AskGates before after Memory = (count : ℕ) × AsksGatesOf count before after
+AskGates before after (Door lane) = AsksGatesOf lane before after
 
 -- the door of some lane's port could not be opened, after those of the lanes before it, or memory ran out
 abbrev pub AreRefused : List ℕ → DoorSide → DoorSide → LanesFault → Type 0

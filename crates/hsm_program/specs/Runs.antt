@@ -1,5 +1,5 @@
 -- The answers of the top call and their causes.
-use Rattle.std.specs.Prelude.{◌≡◌, ℕ, ◌+◌, ◌<◌, ◌≤◌, ◌⊎◌, ◌==◌, List, [], length, slice_get, Some, if◌then◌else◌, Ok, Err}
+use Rattle.std.specs.Prelude.{◌≡◌, ℕ, ◌+◌, ◌<◌, ◌≤◌, ◌⊎◌, ◌==◌, Bool, true, false, List, [], length, slice_get, Some, if◌then◌else◌, Ok, Err}
 use Rattle.hsm_io.specs.Outside.{Rose}
 use Rattle.hsm_io.specs.Files.{kept_name}
 use Rattle.hsm_io.specs.Texts.{Appends, AppendsFront, Stays}
@@ -38,12 +38,12 @@ AnswersWords (check config) outcome = (place : ℕ) → outcome ≡ Usage place 
 AnswersWords (explain row) outcome = (place : ℕ) → outcome ≡ Usage place → ⊥
 AnswersWords (make count seed) outcome = (place : ℕ) → outcome ≡ Usage place → ⊥
 
--- what holds of the configuration that the words name
-abbrev pub OfConfig : Asked → (List ℕ → Type 0) → Type 0
+-- what holds of the configuration that the words name, and of whether they name a script's file beside it
+abbrev pub OfConfig : Asked → (List ℕ → Bool → Type 0) → Type 0
 OfConfig (usage place) P = Unit {0}
-OfConfig (serve config) P = P config
-OfConfig (script config file) P = P config
-OfConfig (check config) P = P config
+OfConfig (serve config) P = P config false
+OfConfig (script config file) P = P config true
+OfConfig (check config) P = P config false
 OfConfig (explain row) P = Unit {0}
 OfConfig (make count seed) P = Unit {0}
 
@@ -92,19 +92,24 @@ WithoutFile (check config) P = Unit {0}
 WithoutFile (explain row) P = P
 WithoutFile (make count seed) P = P
 
--- The outcome by the name and the bytes of the configuration's file, and the bad name. Whatever comes after the configuration
--- comes only where they are one; a file that is too long, or that could not be opened or read, may be the script's.
-abbrev pub AnswersConfig : List ℕ → List ℕ → List ℕ → Outcome → Type 0
-AnswersConfig name bytes bad Served = IsConfig bytes
-AnswersConfig name bytes bad SeedFault = IsConfig bytes
-AnswersConfig name bytes bad (ListenFault lane) = IsConfig bytes
-AnswersConfig name bytes bad OutFault = IsConfig bytes
-AnswersConfig name bytes bad (ScriptRefused line) = IsConfig bytes
-AnswersConfig name bytes bad (ConfigRefused why) = (length bytes ≤ file_limit) × (config_in bytes ≡ Err why)
-AnswersConfig name bytes bad FileLong = (file_limit < length bytes) ⊎ IsConfig bytes
-AnswersConfig name bytes bad FileFault = (bad ≡ kept_name name) ⊎ IsConfig bytes
-AnswersConfig name bytes bad (Usage place) = ⊥
-AnswersConfig name bytes bad Memory = Unit {0}
+-- The cause lies with the configuration's file; with that of a script only where the command has one, and where the bytes are a configuration.
+abbrev pub OfEitherFile : Bool → List ℕ → Type 0 → Type 0
+OfEitherFile false bytes cause = cause
+OfEitherFile true bytes cause = cause ⊎ IsConfig bytes
+
+-- The outcome by whether the command has a script's file too, by the name and the bytes of the configuration's file, and the bad name. Whatever comes
+-- after the configuration comes only where they are one. Only of a script may the file that is too long, or that could not be opened or read, be another.
+abbrev pub AnswersConfig : Bool → List ℕ → List ℕ → List ℕ → Outcome → Type 0
+AnswersConfig has_script name bytes bad Served = IsConfig bytes
+AnswersConfig has_script name bytes bad SeedFault = IsConfig bytes
+AnswersConfig has_script name bytes bad (ListenFault lane) = IsConfig bytes
+AnswersConfig has_script name bytes bad OutFault = IsConfig bytes
+AnswersConfig has_script name bytes bad (ScriptRefused line) = IsConfig bytes
+AnswersConfig has_script name bytes bad (ConfigRefused why) = (length bytes ≤ file_limit) × (config_in bytes ≡ Err why)
+AnswersConfig has_script name bytes bad FileLong = OfEitherFile has_script bytes (file_limit < length bytes)
+AnswersConfig has_script name bytes bad FileFault = OfEitherFile has_script bytes (bad ≡ kept_name name)
+AnswersConfig has_script name bytes bad (Usage place) = ⊥
+AnswersConfig has_script name bytes bad Memory = Unit {0}
 
 -- 6 where a lane was cut or closed by a short frame
 abbrev pub status_of : ScriptEnd → ℕ

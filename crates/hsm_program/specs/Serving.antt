@@ -1,10 +1,10 @@
 -- What `serve` comes to.
-use Rattle.std.specs.Prelude.{◌≡◌, ◌+◌, ℕ, Bool, true, false, ◌||◌, not, ◌==◌, if◌then◌else◌, List, [], ◌∷◌, ◌++◌, length, map, take, slice_get, Option, Some, None, codes, decimal}
-use Rattle.std.specs.List.{AllZip, list_any}
+use Rattle.std.specs.Prelude.{◌≡◌, ◌+◌, ◌⊎◌, ℕ, Bool, true, false, ◌||◌, not, ◌==◌, if◌then◌else◌, List, [], ◌∷◌, ◌++◌, length, map, take, slice_get, Option, Some, None, codes, decimal}
+use Rattle.std.specs.List.{AllZip, list_any, range_with_len}
 use Rattle.hsm_desk.specs.Passes.{PassView}
 use Rattle.hsm_io.specs.Connections.{Doorway, Taken}
 use Rattle.hsm_io.specs.Files.{FileSide}
-use Rattle.hsm_io.specs.Sides.{SeedSide, DoorSide}
+use Rattle.hsm_io.specs.Sides.{SeedSide, DoorSide, Seeded, NotSeeded}
 use Rattle.hsm_io.specs.Outside.{HasCause, Rose}
 use Rattle.hsm_io.specs.Texts.{Appends, AppendsFront}
 use Rattle.hsm_config.specs.declared.configuration.Config.{Config}
@@ -87,6 +87,51 @@ pub record IsRefusedAt (before after : DoorSide) (lane : ℕ) (config : Config) 
 abbrev pub IsListenFault : FileSide → DoorSide → List ℕ → ℕ → DoorSide → Type 0
 IsListenFault files before name lane after = WithConfig files name (IsRefusedAt before after lane)
 
+-- No seed and no door was asked for.
+pub record AsksNeither (seeds seeds_after : SeedSide) (doors doors_after : DoorSide) : Type 0 where
+  pub no_seed : seeds_after ≡ seeds
+  pub no_door : doors_after ≡ doors
+
+-- A call for a seed gave none, and no door was asked for.
+pub record AsksNoDoor (seeds seeds_after : SeedSide) (doors doors_after : DoorSide) : Type 0 where
+  pub no_seed : NotSeeded seeds seeds_after
+  pub no_door : doors_after ≡ doors
+
+-- one seed was given, at the first call for one
+abbrev pub HasSeed : SeedSide → SeedSide → Type 0
+HasSeed seeds seeds_after = Seeded seeds seeds_after seeds_after.last_seed
+
+-- The seed is asked for after the configuration and before the doors: lanes are served, and a door is refused, only where one was given in this call;
+-- with `SeedFault` no door was asked for; where the configuration's file is the cause neither was; and memory may run out before either and after both.
+abbrev pub AsksSeedFirst : SeedSide → SeedSide → DoorSide → DoorSide → Outcome → Type 0
+AsksSeedFirst seeds seeds_after doors doors_after Served = HasSeed seeds seeds_after
+AsksSeedFirst seeds seeds_after doors doors_after OutFault = HasSeed seeds seeds_after
+AsksSeedFirst seeds seeds_after doors doors_after (ListenFault lane) = HasSeed seeds seeds_after
+AsksSeedFirst seeds seeds_after doors doors_after SeedFault = AsksNoDoor seeds seeds_after doors doors_after
+AsksSeedFirst seeds seeds_after doors doors_after FileFault = AsksNeither seeds seeds_after doors doors_after
+AsksSeedFirst seeds seeds_after doors doors_after FileLong = AsksNeither seeds seeds_after doors doors_after
+AsksSeedFirst seeds seeds_after doors doors_after (ConfigRefused why) = AsksNeither seeds seeds_after doors doors_after
+AsksSeedFirst seeds seeds_after doors doors_after (Usage place) = ⊥
+AsksSeedFirst seeds seeds_after doors doors_after (ScriptRefused line) = ⊥
+AsksSeedFirst seeds seeds_after doors doors_after Memory = AsksNeither seeds seeds_after doors doors_after ⊎ HasSeed seeds seeds_after
+
+-- Gates were asked for the first of the lanes, so many of them, from lane 0 upwards and each once.
+abbrev pub AsksGatesOf : ℕ → List ℕ → List ℕ → Type 0
+AsksGatesOf count gates gates_after = gates_after ≡ gates ++ range_with_len 0 count
+
+-- A gate was asked for each lane that is served, with its number; where a door is refused for each lane before; and else, but for want of memory, for none.
+abbrev pub AsksGates : List LaneView → List ℕ → List ℕ → Outcome → Type 0
+AsksGates lanes gates gates_after Served = AsksGatesOf (length lanes) gates gates_after
+AsksGates lanes gates gates_after OutFault = AsksGatesOf (length lanes) gates gates_after
+AsksGates lanes gates gates_after (ListenFault lane) = AsksGatesOf lane gates gates_after
+AsksGates lanes gates gates_after SeedFault = gates_after ≡ gates
+AsksGates lanes gates gates_after FileFault = gates_after ≡ gates
+AsksGates lanes gates gates_after FileLong = gates_after ≡ gates
+AsksGates lanes gates gates_after (ConfigRefused why) = gates_after ≡ gates
+AsksGates lanes gates gates_after (Usage place) = ⊥
+AsksGates lanes gates gates_after (ScriptRefused line) = ⊥
+AsksGates lanes gates gates_after Memory = (count : ℕ) × AsksGatesOf count gates gates_after
+
 -- whether a connection was cut, or ended by a short frame
 abbrev pub is_cut : ConnEnd → Bool
 is_cut Clean = false
@@ -130,7 +175,7 @@ AnswersServe lanes before after (ConfigRefused why) = Unit {0}
 AnswersServe lanes before after (ScriptRefused line) = ⊥
 AnswersServe lanes before after Memory = Unit {0}
 
--- the outcomes of `serve` with which lanes were served
+-- the outcomes of `serve` with which a pass and lanes are handed back
 abbrev pub has_lanes : Outcome → Bool
 has_lanes Served = true
 has_lanes OutFault = true
@@ -148,7 +193,7 @@ abbrev pub IsThere : Bool → Option PassView → List LaneView → Type 0
 IsThere true pass lanes = (p : PassView) × (pass ≡ Some p)
 IsThere false pass lanes = (pass ≡ None) × (lanes ≡ [])
 
--- A pass is there exactly where `serve` ended with `Served` or `OutFault`; else there are no lanes.
+-- A pass is handed back exactly where `serve` ended with `Served` or `OutFault`, and else no lanes either.
 abbrev pub HasLanes : Asked → Outcome → Option PassView → List LaneView → Type 0
 HasLanes (usage place) outcome pass lanes = IsThere false pass lanes
 HasLanes (serve config) outcome pass lanes = IsThere (has_lanes outcome) pass lanes

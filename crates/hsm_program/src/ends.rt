@@ -30,6 +30,7 @@ pub(crate) fn end_lanes<D: Door + Send + Drop, C: Clock + Send + Drop, G: Gate +
     ensures joined { IfSome result (λ pass. AreJoined (map (λ lane. lane.tools.pass) lanes.items) pass) }
     ensures numbers { IfSome result (λ pass. IsWhole pass → OnlyKin pass) }
     ensures some { 0 < length lanes.items → IsSome result }
+    ensures desk { IfSome result (λ pass. pass.desk ≡ desk.now) }
 {
     let mut joined: Option<Pass> = None;
     'lanes: for lane in lanes {

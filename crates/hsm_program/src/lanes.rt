@@ -5,7 +5,8 @@ ghost use Rattle.hsm_config.specs.Rules.{all_different};
 ghost use Rattle.hsm_desk.specs.Passes.{first_pass, new_pass, step};
 ghost use Rattle.hsm_io.specs.Sides.{IsNotAmong};
 ghost use Rattle.hsm_rows.specs.declared.settings.Module.{Module};
-ghost use Rattle.hsm_program.specs.Lanes.{AreLanes, AreRefused, IsNewLane, IsRefused, OthersStay, keeps, next_span};
+ghost use Rattle.hsm_program.specs.Lanes.{AreLanes, AreRefused, AskGates, AsksGate, IsNewLane, IsRefused, OthersStay, keeps, next_span};
+ghost use Rattle.hsm_program.specs.Serving.{AsksGatesOf};
 ghost use Rattle.hsm_config.specs.Configs.{ports_of};
 
 use arrayvec::ArrayVec;
@@ -73,7 +74,9 @@ fn open_lane<B: Bench>(
         (⟦<Lane<B::Door, B::Clock, B::Gate> as HasState>⟧.state lane)) }
     ensures others { IfOk result (λ lane. OthersStay port (B.doors bench.old) (B.doors bench.new)) }
     ensures asked { (B.doors bench.new).asked ≡ (B.doors bench.old).asked ++ port ∷ [] }
+    ensures gate { IfOk result (λ lane. B.gates bench.new ≡ B.gates bench.old ++ number ∷ []) }
     ensures refused { IfErr result (λ fault. IsRefused number port (B.doors bench.old) (B.doors bench.new) fault) }
+    ensures refused_gate { IfErr result (λ fault. AsksGate number (B.gates bench.old) (B.gates bench.new) fault) }
     ensures files { B.files bench.new ≡ B.files bench.old }
     ensures seeds { B.seeds bench.new ≡ B.seeds bench.old }
     ensures moments { B.moments bench.new ≡ B.moments bench.old }
@@ -107,7 +110,9 @@ pub(crate) fn open_lanes<B: Bench>(
     ensures made { IfOk result (λ lanes. AreLanes «module».now config.now.accept (B.moments bench.old) (B.doors bench.old).connections (ports_of config.now) desk.now
         (map (⟦<Lane<B::Door, B::Clock, B::Gate> as HasState>⟧.state) lanes.items)) }
     ensures asked { IfOk result (λ lanes. (B.doors bench.new).asked ≡ ports_of config.now) }
+    ensures gates { IfOk result (λ lanes. AsksGatesOf (length (ports_of config.now)) (B.gates bench.old) (B.gates bench.new)) }
     ensures refused { IfErr result (λ fault. AreRefused (ports_of config.now) (B.doors bench.old) (B.doors bench.new) fault) }
+    ensures refused_gates { IfErr result (λ fault. AskGates (B.gates bench.old) (B.gates bench.new) fault) }
     ensures files { B.files bench.new ≡ B.files bench.old }
     ensures seeds { B.seeds bench.new ≡ B.seeds bench.old }
 {

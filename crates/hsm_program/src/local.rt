@@ -62,6 +62,7 @@ fn read_file<B: Bench>(alloc: Global, name: &str, bench: &mut B) -> Result<Vec<u
     ensures seeds { B.seeds bench.new ≡ B.seeds bench.old }
     ensures doors { B.doors bench.new ≡ B.doors bench.old }
     ensures moments { B.moments bench.new ≡ B.moments bench.old }
+    ensures gates { B.gates bench.new ≡ B.gates bench.old }
 {
     let Some(mut file) = bench.open_file(name) else {
         return Err(ReadingFault::Failed);
@@ -91,6 +92,7 @@ pub(crate) fn read_config<B: Bench>(
     ensures seeds { B.seeds bench.new ≡ B.seeds bench.old }
     ensures doors { B.doors bench.new ≡ B.doors bench.old }
     ensures moments { B.moments bench.new ≡ B.moments bench.old }
+    ensures gates { B.gates bench.new ≡ B.gates bench.old }
 {
     let bytes = match read_file(alloc, name, bench) {
         Ok(bytes) => bytes,
@@ -141,6 +143,7 @@ fn run_file<B: Bench, S: Sink>(
     ensures seeds { B.seeds bench.new ≡ B.seeds bench.old }
     ensures doors { B.doors bench.new ≡ B.doors bench.old }
     ensures moments { B.moments bench.new ≡ B.moments bench.old }
+    ensures gates { B.gates bench.new ≡ B.gates bench.old }
 {
     clear_in_runs();
     legal_runs();
@@ -172,7 +175,7 @@ fn run_script<B: Bench, S: Sink>(
     requires { (B.files bench.old).is_out ≡ false }
     ensures words { (place : ℕ) → result.1 ≡ Outcome.Usage place → ⊥ }
     ensures config { (bytes : List ℕ) → (B.files bench.old).bytes_of settings.now ≡ Some bytes →
-        AnswersConfig settings.now bytes (B.files bench.new).bad_name result.1 }
+        AnswersConfig true settings.now bytes (B.files bench.new).bad_name result.1 }
     ensures script { (said bytes : List ℕ) (config : Config) →
         (B.files bench.old).bytes_of settings.now ≡ Some said → (B.files bench.old).bytes_of file.now ≡ Some bytes → HoldsConfig said config →
         AnswersScript (run_module config) bytes (S.stands_for out.old) (S.stands_for out.new) result.0 result.1 }
@@ -186,6 +189,7 @@ fn run_script<B: Bench, S: Sink>(
     ensures seeds { B.seeds bench.new ≡ B.seeds bench.old }
     ensures doors { B.doors bench.new ≡ B.doors bench.old }
     ensures moments { B.moments bench.new ≡ B.moments bench.old }
+    ensures gates { B.gates bench.new ≡ B.gates bench.old }
 {
     match read_config(alloc, settings, bench) {
         Ok(config) => run_file(alloc, &run_module(&config), file, bench, out),
@@ -221,7 +225,7 @@ fn check_config<B: Bench, S: Sink>(
     requires { (B.files bench.old).is_out ≡ false }
     ensures words { (place : ℕ) → result.1 ≡ Outcome.Usage place → ⊥ }
     ensures config { (bytes : List ℕ) → (B.files bench.old).bytes_of name.now ≡ Some bytes →
-        AnswersConfig name.now bytes (B.files bench.new).bad_name result.1 }
+        AnswersConfig false name.now bytes (B.files bench.new).bad_name result.1 }
     ensures check { (bytes : List ℕ) (config : Config) → (B.files bench.old).bytes_of name.now ≡ Some bytes → HoldsConfig bytes config
         → AnswersCheck config (S.stands_for out.old) (S.stands_for out.new) result.0 result.1 }
     ensures status { HasStatus result.0 result.1 }
@@ -234,6 +238,7 @@ fn check_config<B: Bench, S: Sink>(
     ensures seeds { B.seeds bench.new ≡ B.seeds bench.old }
     ensures doors { B.doors bench.new ≡ B.doors bench.old }
     ensures moments { B.moments bench.new ≡ B.moments bench.old }
+    ensures gates { B.gates bench.new ≡ B.gates bench.old }
 {
     match read_config(alloc, name, bench) {
         Ok(config) => print_hosts(&config, out),
@@ -275,8 +280,8 @@ pub fn hsm_local<B: Bench, S: Sink>(
     // The words are a command.
     ensures words { (place : ℕ) → result.1 ≡ Outcome.Usage place → ⊥ }
     // Where the bench tells the bytes of the configuration's file, they decide whether it is refused and how, before the script's file is opened.
-    ensures config { OfConfig (asked (names words.now)) (λ name. (bytes : List ℕ) → (B.files bench.old).bytes_of name ≡ Some bytes →
-        AnswersConfig name bytes (B.files bench.new).bad_name result.1) }
+    ensures config { OfConfig (asked (names words.now)) (λ name has_script. (bytes : List ℕ) → (B.files bench.old).bytes_of name ≡ Some bytes →
+        AnswersConfig has_script name bytes (B.files bench.new).bad_name result.1) }
     // Where it tells those of a configuration and of the script's file, they decide the outcome, the status and the output, but for faults and want of memory.
     // Each authorisation of the run is by a console text of the script with both officers' words, and what is shown in the clear is shown under a grant so given.
     ensures script { OfScript (asked (names words.now)) (λ name file. (settings bytes : List ℕ) (config : Config) →
@@ -302,9 +307,10 @@ pub fn hsm_local<B: Bench, S: Sink>(
     // Each file is as it was, and none is out.
     ensures files { FilesStay (B.files bench.old).bytes_of (B.files bench.new).bytes_of }
     ensures given_back { (B.files bench.new).is_out ≡ false }
-    // No seed and no door was asked for.
+    // No seed, no door and no gate was asked for.
     ensures seeds { B.seeds bench.new ≡ B.seeds bench.old }
     ensures doors { B.doors bench.new ≡ B.doors bench.old }
+    ensures gates { B.gates bench.new ≡ B.gates bench.old }
 {
     match *command {
         Command::Serve { .. } => unreachable!(),

@@ -10,10 +10,10 @@ use crate::outcome::Outcome;
 use hsm_auth::Ledger;
 use hsm_io::{Sink, write_all};
 use hsm_make::{made_module, made_script, put_summary};
-use hsm_make_said::made_scripts_read;
 use hsm_session::{ScriptFault, clear_in_runs, legal_runs, script_run};
 use hsm_tally::Tally;
 use hsm_text::Reply;
+use law_made_scripts::made_scripts_read;
 use std::alloc::Global;
 
 // Runs the script that is made of a count and a seed. The tally stands for what the run prints.

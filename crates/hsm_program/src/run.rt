@@ -9,7 +9,7 @@ ghost use Rattle.hsm_program.specs.Settings.{HoldsConfig, run_module};
 ghost use Rattle.hsm_program.specs.Words.{asked, names};
 ghost use Rattle.hsm_program.specs.Runs.{AnswersCheck, AnswersConfig, AnswersMade, AnswersRow, AnswersScript, AnswersWords, FileCause};
 ghost use Rattle.hsm_program.specs.Runs.{OfCheck, OfConfig, OfMade, OfRow, OfScript, WithoutFile, WritesNothing};
-ghost use Rattle.hsm_program.specs.Serving.{AnswersServe, HasLanes, HasServed, IsListenFault, IsStatus, OfServe, OtherThanServe, lane_views};
+ghost use Rattle.hsm_program.specs.Serving.{AnswersServe, AsksGates, AsksSeedFirst, HasLanes, HasServed, IsListenFault, IsStatus, OfServe, OtherThanServe, lane_views};
 
 use crate::command::{Command, WordsFault, read_words};
 use crate::local::{hsm_local, word_at};
@@ -51,7 +51,7 @@ pub(crate) fn without_lanes<D>(alloc: Global, status: u8, outcome: Outcome) -> E
 ///
 /// The causes are looked at in this order: the words; the configuration's file and what it says; for `script` the script's file and
 /// its lines; for `serve` the seed, then the doors from lane 0 upwards; then the output. Want of memory may come before any but the
-/// words, never in printing a row, and in serving only before the first lane starts.
+/// words, and never in printing a row; in serving it hands back no lanes and no pass.
 pub fn hsm_run<Rt, B, S>(
     rt: &Rt,
     alloc: Global,
@@ -69,14 +69,14 @@ where
     // `Usage` comes exactly where the words are no command.
     ensures words { AnswersWords (asked (names words.now)) result.outcome }
     // Where the bench tells the bytes of the configuration's file, they decide whether it is refused and how, before anything else is opened.
-    ensures config { OfConfig (asked (names words.now)) (λ name. (bytes : List ℕ) → (B.files bench.old).bytes_of name ≡ Some bytes →
-        AnswersConfig name bytes (B.files bench.new).bad_name result.outcome) }
+    ensures config { OfConfig (asked (names words.now)) (λ name has_script. (bytes : List ℕ) → (B.files bench.old).bytes_of name ≡ Some bytes →
+        AnswersConfig has_script name bytes (B.files bench.new).bad_name result.outcome) }
     // The theorem on serving: where lanes were served, each connection was written the framed answers to its messages, each at its own
     // single entry in one legal history, and a clear key or PIN only under a grant that was live at that entry.
     ensures headline { OfServe (asked (names words.now)) (λ name. IfSome result.pass (λ pass.
         HasServed (B.files bench.old) (B.doors bench.old) (B.moments bench.old) name (B.seeds bench.new) (B.doors bench.new)
         (lane_views B.Door.doorway B.Door.faults B.Door.broken result.lanes.items) pass)) }
-    // Lanes were served exactly with `Served` and `OutFault` of `serve`; the pass is there just then, and else there are no lanes.
+    // A pass is handed back exactly with `Served` and `OutFault` of `serve`, and with every other answer no lanes either.
     ensures lanes { HasLanes (asked (names words.now)) result.outcome result.pass (lane_views B.Door.doorway B.Door.faults B.Door.broken result.lanes.items) }
     // Of lanes that were served a line each is written, but for a failed write.
     ensures serve { OfServe (asked (names words.now)) (λ name.
@@ -104,14 +104,21 @@ where
     // `ListenFault` of a lane only where the count for doors rose in this call, as the port of that lane was asked, after those of the lanes before it.
     ensures listen_cause { OfServe (asked (names words.now)) (λ name. (lane : ℕ) → result.outcome ≡ Outcome.ListenFault lane →
         IsListenFault (B.files bench.old) (B.doors bench.old) name lane (B.doors bench.new)) }
+    // Of `serve` the seed is asked for after the configuration and before the doors. A door is asked for only where a seed was given in this call.
+    ensures seed_first { OfServe (asked (names words.now)) (λ name.
+        AsksSeedFirst (B.seeds bench.old) (B.seeds bench.new) (B.doors bench.old) (B.doors bench.new) result.outcome) }
+    // A gate was asked for each lane, with its number, from lane 0 upwards.
+    ensures gates { OfServe (asked (names words.now)) (λ name.
+        AsksGates (lane_views B.Door.doorway B.Door.faults B.Door.broken result.lanes.items) (B.gates bench.old) (B.gates bench.new) result.outcome) }
     // `OutFault` only where the sink's count rose in this call.
     ensures out_cause { result.outcome ≡ Outcome.OutFault → Rose (S.faults out.old) (S.faults out.new) }
     // Where the words name no file the bench is as it was.
     ensures no_file { WithoutFile (asked (names words.now)) (bench.new ≡ bench.old) }
-    // Each file is as it was, and none is out. With no command but `serve` a seed or a door was asked for.
+    // Each file is as it was, and none is out. With no command but `serve` a seed, a door or a gate was asked for.
     ensures files { FilesStay (B.files bench.old).bytes_of (B.files bench.new).bytes_of }
     ensures given_back { (B.files bench.new).is_out ≡ false }
-    ensures others { OtherThanServe (asked (names words.now)) ((B.seeds bench.new ≡ B.seeds bench.old) × (B.doors bench.new ≡ B.doors bench.old)) }
+    ensures others { OtherThanServe (asked (names words.now))
+        ((B.seeds bench.new ≡ B.seeds bench.old) × (B.doors bench.new ≡ B.doors bench.old) × (B.gates bench.new ≡ B.gates bench.old)) }
 {
     match read_words(words) {
         Err(WordsFault::Usage(place)) => { without_lanes(alloc, 2, Outcome::Usage(place as u64)) }

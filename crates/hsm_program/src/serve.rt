@@ -5,9 +5,9 @@ ghost use Rattle.hsm_io.specs.Outside.{Rose};
 ghost use Rattle.hsm_io.specs.Files.{kept_name};
 ghost use Rattle.hsm_config.specs.Rules.{all_different, are_odd};
 ghost use Rattle.hsm_program.specs.Files.{FilesStay};
-ghost use Rattle.hsm_program.specs.Lanes.{AreRefused};
+ghost use Rattle.hsm_program.specs.Lanes.{AreRefused, AskGates};
 ghost use Rattle.hsm_program.specs.Runs.{AnswersConfig, WritesNothing};
-ghost use Rattle.hsm_program.specs.Serving.{AnswersServe, HasServed, IsListenFault, IsServeStatus, IsThere, ServedBy, has_lanes, lane_views};
+ghost use Rattle.hsm_program.specs.Serving.{AnswersServe, AsksGates, AsksGatesOf, AsksSeedFirst, HasServed, IsListenFault, IsServeStatus, IsThere, ServedBy, has_lanes, lane_views};
 ghost use Rattle.hsm_config.specs.Configs.{ports_of};
 ghost use Rattle.hsm_rows.specs.declared.settings.Module.{Module};
 ghost use Rattle.hsm_server.specs.Lanes.{EachLane, IsReady, Ran, message_count};
@@ -72,7 +72,9 @@ where
     ensures served { IfOk result (λ over. IfSome over.pass (λ pass. ServedBy (B.doors bench.old) (B.moments bench.old) (B.seeds bench.new) (B.doors bench.new)
         (lane_views B.Door.doorway B.Door.faults B.Door.broken over.ends.items) pass config.now)) }
     ensures few { IfOk result (λ over. All (λ end. message_count end.reports.items < 2 ^ 64) over.ends.items) }
+    ensures gates { IfOk result (λ over. AsksGatesOf (length (lane_views B.Door.doorway B.Door.faults B.Door.broken over.ends.items)) (B.gates bench.old) (B.gates bench.new)) }
     ensures refused { IfErr result (λ fault. AreRefused (ports_of config.now) (B.doors bench.old) (B.doors bench.new) fault) }
+    ensures refused_gates { IfErr result (λ fault. AskGates (B.gates bench.old) (B.gates bench.new) fault) }
     ensures files { B.files bench.new ≡ B.files bench.old }
     ensures seeds { B.seeds bench.new ≡ B.seeds bench.old }
 {
@@ -133,7 +135,7 @@ where
     requires none_asked { (B.doors bench.old).asked ≡ [] }
     ensures words { (place : ℕ) → result.outcome ≡ Outcome.Usage place → ⊥ }
     ensures config { (bytes : List ℕ) → (B.files bench.old).bytes_of name.now ≡ Some bytes →
-        AnswersConfig name.now bytes (B.files bench.new).bad_name result.outcome }
+        AnswersConfig false name.now bytes (B.files bench.new).bad_name result.outcome }
     ensures headline { IfSome result.pass (λ pass.
         HasServed (B.files bench.old) (B.doors bench.old) (B.moments bench.old) name.now (B.seeds bench.new) (B.doors bench.new)
         (lane_views B.Door.doorway B.Door.faults B.Door.broken result.lanes.items) pass) }
@@ -145,6 +147,8 @@ where
     ensures seed_cause { result.outcome ≡ Outcome.SeedFault → Rose (B.seeds bench.old).faults (B.seeds bench.new).faults }
     ensures listen_cause { (lane : ℕ) → result.outcome ≡ Outcome.ListenFault lane →
         IsListenFault (B.files bench.old) (B.doors bench.old) name.now lane (B.doors bench.new) }
+    ensures seed_first { AsksSeedFirst (B.seeds bench.old) (B.seeds bench.new) (B.doors bench.old) (B.doors bench.new) result.outcome }
+    ensures gates { AsksGates (lane_views B.Door.doorway B.Door.faults B.Door.broken result.lanes.items) (B.gates bench.old) (B.gates bench.new) result.outcome }
     ensures out_cause { result.outcome ≡ Outcome.OutFault → Rose (S.faults out.old) (S.faults out.new) }
     ensures files { FilesStay (B.files bench.old).bytes_of (B.files bench.new).bytes_of }
     ensures given_back { (B.files bench.new).is_out ≡ false }

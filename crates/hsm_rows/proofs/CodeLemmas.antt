@@ -5,11 +5,11 @@ use Rattle.std.specs.Prelude.{filter, nat_le}
 use Rattle.std.specs.List.{list_all, list_any, range_with_len}
 use Rattle.hsm_rows.specs.declared.row.Code.{Code}
 use Rattle.hsm_rows.specs.Reading.{is_console}
-use Rattle.hsm_rows.specs.Rules.{RowRules, rules_A0, rules_A6, rules_A8, rules_BU, rules_CA, rules_CC, rules_DE, rules_DG, rules_DA, rules_EA, rules_DC, rules_EC, rules_BA, rules_NG, rules_JA, rules_CW, rules_CY, rules_M6, rules_M8, rules_RA}
+use Rattle.hsm_rows.specs.Rules.{RowRules}
 use Rattle.hsm_rows.proofs.RowLemmas.{le_holds, passes}
 use Rattle.hsm_rows.specs.declared.row.Row.{Row}
 use Rattle.hsm_rows.specs.declared.row.Field.{Field}
-use Rattle.hsm_rows.specs.Table.{RowShape, rules_of, shape_of, host_rows, console_rows, row_A0, row_A6, row_A8, row_BU, row_CA, row_CC, row_DE, row_DG, row_DA, row_EA, row_DC, row_EC, row_BA, row_NG, row_JA, row_CW, row_CY, row_M6, row_M8, row_B2, row_NC, row_NO, row_RA, row_A, row_C, row_VA, row_Q, row_LOG, row_GC, row_FK}
+use Rattle.hsm_rows.specs.Table.{RowShape, rules_of, shape_of, host_rows, console_rows}
 use Rattle.hsm_rows.specs.Codes.{IsRow, codes_from, check_codes, codes_of, data_codes, is_among, key_codes, names, where_any, where_some}
 
 or_again : (a b c : Bool) → (a || (b || c)) ≡ ((a || b) || c)
@@ -129,11 +129,11 @@ abbrev has_few_codes : RowShape → Bool
 has_few_codes row = nat_le (length (codes_of row)) 16
 
 hosts_few : list_all has_few_codes host_rows ≡ true
-unfolding names codes_from codes_of host_rows row_A0 row_A6 row_A8 row_BU row_CA row_CC row_DE row_DG row_DA row_EA row_DC row_EC row_BA row_NG row_JA row_CW row_CY row_M6 row_M8 row_B2 row_NC row_NO row_RA rules_A0 rules_A6 rules_A8 rules_BU rules_CA rules_CC rules_DE rules_DG rules_DA rules_EA rules_DC rules_EC rules_BA rules_NG rules_JA rules_CW rules_CY rules_M6 rules_M8 rules_RA
+unfolding names codes_from codes_of host_rows
 hosts_few = refl
 
 consoles_few : list_all has_few_codes console_rows ≡ true
-unfolding codes_of console_rows row_A row_C row_VA row_Q row_LOG row_GC row_FK
+unfolding codes_of console_rows
 consoles_few = refl
 
 pub few_codes : (row : RowShape) → IsRow row → length (codes_of row) ≤ 16

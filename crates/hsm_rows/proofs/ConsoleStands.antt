@@ -12,7 +12,6 @@ there (inr h) = let e : false ≡ true = h.1.1 in let z : ⊥ = cc in absurd z
 
 -- what `A` read
 pub authorisation_stands : (text : List ℕ) (r : ReadText) → reading row_A text ≡ Ok r → AuthorisationStands r
-unfolding row_A
 authorisation_stands text r h =
     let all = console_texts row_A text r refl h in
     record { activity = there all.0; minutes = there all.1.0; first = there all.1.1.0; second = there all.1.1.1.0 }

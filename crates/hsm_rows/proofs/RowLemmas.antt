@@ -1,12 +1,12 @@
 -- Rows of the table.
 use Rattle.std.proofs.Common.{◌≡◌, ℕ, zero, suc, Bool, true, false, ◌&&◌, ◌+◌, ◌<◌, ◌≤◌, List, [], ◌∷◌, ◌++◌, length, Option, Some, None, refl, arith, subst, cond, sym, ap, ◌∙◌, length-append, drop, drop-cons, get_or, map}
-use Rattle.std.specs.Prelude.{codes, nat_le, find, IfSome, slice_index_or}
-use Rattle.std.specs.List.{list_all, Contains, flat_map}
+use Rattle.std.specs.Prelude.{codes, nat_le, filter, find, IfSome, slice_index_or}
+use Rattle.std.specs.List.{AllByRecursion, list_all, Contains, flat_map}
 use Rattle.std.specs.Option.{option_map}
 use Rattle.std.specs.Borrow.{Bor}
 use Rattle.std.proofs.lemmas.Bool.Decides.{nat_tests}
 use Rattle.hsm_rows.specs.declared.row.Row.{Row}
-use Rattle.hsm_rows.specs.Table.{RowShape, shape_of, shown_shape, term_of, row_with, same_code, host_rows, console_rows, IsHostRow, IsConsoleRow, row_A0, row_A6, row_A8, row_BU, row_CA, row_CC, row_DE, row_DG, row_DA, row_EA, row_DC, row_EC, row_BA, row_NG, row_JA, row_CW, row_CY, row_M6, row_M8, row_B2, row_NC, row_NO, row_RA, row_A, row_C, row_VA, row_Q, row_LOG, row_GC, row_FK}
+use Rattle.hsm_rows.specs.Table.{RowShape, shape_of, shown_shape, term_of, row_with, same_code, host_rows, console_rows, IsHostRow, IsConsoleRow}
 use Rattle.hsm_rows.specs.declared.row.Field.{Field}
 use Rattle.hsm_rows.specs.declared.row.Public.{Public}
 use Rattle.hsm_rows.specs.Texts.{number_text}
@@ -26,9 +26,31 @@ passes test (x ∷ xs) row zero h l e =
     subst P e (and_left (test x) (list_all test xs) h)
 passes test (x ∷ xs) row (suc k) h l e = passes test xs row k (and_right (test x) (list_all test xs) h) (omega arith) e
 
--- the row that is found is one of them
+-- what follows from a test that each row passes holds of each
+pub all_by : (P : RowShape → Type 0) (test : RowShape → Bool) → ((row : RowShape) → test row ≡ true → P row) → (rows : List RowShape) → list_all test rows ≡ true → AllByRecursion P rows
+all_by P test holds [] h = tt
+all_by P test holds (x ∷ xs) h = (holds x (and_left (test x) (list_all test xs) h), all_by P test holds xs (and_right (test x) (list_all test xs) h))
+
+one_but : (P : RowShape → Type 0) (test : RowShape → Bool) → ((row : RowShape) → test row ≡ false → P row) → (x : RowShape) (xs : List RowShape)
+    → (AllByRecursion P (filter test xs) → AllByRecursion P xs) → (passed : Bool) → test x ≡ passed
+    → AllByRecursion P (cond passed (x ∷ filter test xs) (filter test xs)) → P x × AllByRecursion P xs
+one_but P test other x xs more true is h = (h.0, more h.1)
+one_but P test other x xs more false is h = (other x is, more h)
+
+-- what holds of the rows that pass a test, and follows where one doesn't, holds of each
+pub all_but : (P : RowShape → Type 0) (test : RowShape → Bool) → ((row : RowShape) → test row ≡ false → P row) → (rows : List RowShape) → AllByRecursion P (filter test rows) → AllByRecursion P rows
+all_but P test other [] h = tt
+all_but P test other (x ∷ xs) h = one_but P test other x xs (all_but P test other xs) (test x) refl h
+
 further_on : (x : RowShape) (xs : List RowShape) (row : RowShape) → Contains xs row → Contains (x ∷ xs) row
 further_on x xs row (k, l, e) = (suc k, omega arith, e)
+
+-- what holds of each row that is one of them holds of each
+pub all_of : (P : RowShape → Type 0) (rows : List RowShape) → ((row : RowShape) → Contains rows row → P row) → AllByRecursion P rows
+all_of P [] holds = tt
+all_of P (x ∷ xs) holds = (holds x (0, omega arith, refl), all_of P xs (λ row there. holds row (further_on x xs row there)))
+
+-- the row that is found is one of them
 
 some_same : (a b : RowShape) → Some a ≡ Some b → a ≡ b
 some_same a b h = cc
@@ -46,11 +68,11 @@ row_found code rows None h = tt
 row_found code rows (Some r) h = found_in (same_code code) rows (shape_of r.now) (sym h)
 
 host_few : list_all has_few_fields host_rows ≡ true
-unfolding host_rows row_A0 row_A6 row_A8 row_BU row_CA row_CC row_DE row_DG row_DA row_EA row_DC row_EC row_BA row_NG row_JA row_CW row_CY row_M6 row_M8 row_B2 row_NC row_NO row_RA
+unfolding host_rows
 host_few = refl
 
 console_few : list_all has_few_fields console_rows ≡ true
-unfolding console_rows row_A row_C row_VA row_Q row_LOG row_GC row_FK
+unfolding console_rows
 console_few = refl
 
 few_by : (rows : List RowShape) (o : Option (Bor Row)) → list_all has_few_fields rows ≡ true → IfSome o (λ r. Contains rows (shape_of r.now)) → IfSome o (λ r. length r.now.fields.now ≤ 12)
@@ -68,7 +90,7 @@ abbrev is_short : RowShape → Bool
 is_short row = nat_le (length (explain_text row)) 500 && nat_le (length row.terms) 9
 
 host_short : list_all is_short host_rows ≡ true
-unfolding explain_text host_rows row_A0 row_A6 row_A8 row_BU row_CA row_CC row_DE row_DG row_DA row_EA row_DC row_EC row_BA row_NG row_JA row_CW row_CY row_M6 row_M8 row_B2 row_NC row_NO row_RA
+unfolding explain_text host_rows
 host_short = refl
 
 pub record IsShort (row : RowShape) : Type 0 where

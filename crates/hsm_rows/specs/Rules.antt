@@ -126,7 +126,7 @@ draws ty scheme wrapper kek kek_scheme = record (checks_keys (Target (Named ty) 
   made = record (makes (Named ty) scheme) { wrap_scheme = kek_scheme };
 }
 
-unfoldable pub rules_A0 : RowRules
+abbrev pub rules_A0 : RowRules
 rules_A0 = draws 1 2 3 4 5
 
 -- A6: type, ZMK, key under the ZMK, scheme
@@ -138,7 +138,7 @@ imports ty zmk wrapped scheme =
       made = makes (Named ty) scheme;
     }
 
-unfoldable pub rules_A6 : RowRules
+abbrev pub rules_A6 : RowRules
 rules_A6 = imports 0 1 2 3
 
 -- A8: type, [;f], wrapping key, key, scheme under the wrapping key
@@ -150,14 +150,14 @@ exports ty wrapper kek exported kek_scheme =
       made = record (makes (Named ty) 0) { wrap_scheme = kek_scheme };
     }
 
-unfoldable pub rules_A8 : RowRules
+abbrev pub rules_A8 : RowRules
 rules_A8 = exports 0 1 2 3 4
 
 -- BU: pair code, flag, key, `;`, type
 abbrev shows_check_value : (pair_code flag checked semicolon ty : ℕ) → RowRules
 shows_check_value pair_code flag checked semicolon ty = checks_keys (GivenKey checked Lmk (ByPair pair_code ty) false (FlagPlusOne flag) (coded 10) ∷ [])
 
-unfoldable pub rules_BU : RowRules
+abbrev pub rules_BU : RowRules
 rules_BU = shows_check_value 0 1 2 3 4
 
 -- CA and CC: key, ZPK, greatest length, block, format, second format, account; the first key is of this type
@@ -169,11 +169,11 @@ translates ty first zpk longest block format second_format account = record (che
 }
 
 -- CA: the first key is a TPK
-unfoldable pub rules_CA : RowRules
+abbrev pub rules_CA : RowRules
 rules_CA = translates Tpk 0 1 2 3 4 5 6
 
 -- CC: the first key is a ZPK
-unfoldable pub rules_CC : RowRules
+abbrev pub rules_CC : RowRules
 rules_CC = translates Zpk 0 1 2 3 4 5 6
 
 -- DE: PVK, PIN, check length, account, table, validation data
@@ -184,7 +184,7 @@ makes_offset pvk sealed least account table validation = record (checks_keys (ke
   checks = TableCheck table ∷ PinCheck ∷ ShorterThan least ∷ [];
 }
 
-unfoldable pub rules_DE : RowRules
+abbrev pub rules_DE : RowRules
 rules_DE = makes_offset 0 1 2 3 4 5
 
 -- DG: PVK pair, PIN, account, index
@@ -195,7 +195,7 @@ makes_pvv pair sealed account index = record (checks_keys (key_of_type pair Tpk 
   checks = PinCheck ∷ [];
 }
 
-unfoldable pub rules_DG : RowRules
+abbrev pub rules_DG : RowRules
 rules_DG = makes_pvv 0 1 2 3
 
 -- DA and EA: key, PVK, greatest length, block, format, check length, account, table, validation data, offset; the first key is of this type
@@ -208,11 +208,11 @@ verifies_offset ty first pvk longest block format least account table validation
 }
 
 -- DA: the first key is a TPK
-unfoldable pub rules_DA : RowRules
+abbrev pub rules_DA : RowRules
 rules_DA = verifies_offset Tpk 0 1 2 3 4 5 6 7 8 9
 
 -- EA: the first key is a ZPK
-unfoldable pub rules_EA : RowRules
+abbrev pub rules_EA : RowRules
 rules_EA = verifies_offset Zpk 0 1 2 3 4 5 6 7 8 9
 
 -- DC and EC: key, PVK pair, block, format, account, index, PVV; the first key is of this type
@@ -225,32 +225,32 @@ verifies_pvv ty first pair block format account index pvv = record (checks_keys 
 }
 
 -- DC: the first key is a TPK
-unfoldable pub rules_DC : RowRules
+abbrev pub rules_DC : RowRules
 rules_DC = verifies_pvv Tpk 0 1 2 3 4 5 6
 
 -- EC: the first key is a ZPK
-unfoldable pub rules_EC : RowRules
+abbrev pub rules_EC : RowRules
 rules_EC = verifies_pvv Zpk 0 1 2 3 4 5 6
 
 -- BA: clear PIN, account
 abbrev seals_pin : (digits account : ℕ) → RowRules
 seals_pin digits account = record plain { needs = pin_clear_at_host ∷ []; pin = ClearPin digits account; checks = PinCheck ∷ [] }
 
-unfoldable pub rules_BA : RowRules
+abbrev pub rules_BA : RowRules
 rules_BA = seals_pin 0 1
 
 -- NG: account, PIN; its first reply field is clear
 abbrev shows_pin : (account sealed : ℕ) → RowRules
 shows_pin account sealed = record plain { needs = pin_clear_at_host ∷ []; pin = LmkPin sealed account; checks = PinCheck ∷ []; clear = 0 ∷ [] }
 
-unfoldable pub rules_NG : RowRules
+abbrev pub rules_NG : RowRules
 rules_NG = shows_pin 0 1
 
 -- JA: account, length
 abbrev draws_pin : (account digits : ℕ) → RowRules
 draws_pin account digits = record plain { words = AsLength digits; pin = DrawnPin digits account }
 
-unfoldable pub rules_JA : RowRules
+abbrev pub rules_JA : RowRules
 rules_JA = draws_pin 0 1
 
 -- a row that makes or compares a CVV
@@ -258,14 +258,14 @@ abbrev card_value : (pair pan expiry service : ℕ) → RowRules
 card_value pair pan expiry service = record (checks_keys (key_of_type pair Cvk 10 ∷ [])) { value = CvvOf pair pan expiry service }
 
 -- CW: CVK pair, account number, expiry, service code
-unfoldable pub rules_CW : RowRules
+abbrev pub rules_CW : RowRules
 rules_CW = card_value 0 1 2 3
 
 -- CY: CVK pair, CVV, account number, expiry, service code
 abbrev verifies_cvv : (pair cvv pan expiry service : ℕ) → RowRules
 verifies_cvv pair cvv pan expiry service = record (card_value pair pan expiry service) { compared = Some cvv }
 
-unfoldable pub rules_CY : RowRules
+abbrev pub rules_CY : RowRules
 rules_CY = verifies_cvv 0 1 2 3 4
 
 -- M6 and M8: mode, input, size, algorithm, padding, type, key, chaining value, count, data
@@ -280,14 +280,14 @@ authenticates ty f = record (checks_keys (GivenKey f.key Lmk (Named ty) false (T
 }
 
 -- M6 writes it
-unfoldable pub rules_M6 : RowRules
+abbrev pub rules_M6 : RowRules
 rules_M6 = authenticates 5 mac_fields
 
 -- M8 compares it with the MAC after the data
 abbrev verifies_mac : (ty mac : ℕ) → RowRules
 verifies_mac ty mac = record (authenticates ty mac_fields) { compared = Some mac }
 
-unfoldable pub rules_M8 : RowRules
+abbrev pub rules_M8 : RowRules
 rules_M8 = verifies_mac 5 10
 
 -- GC: type, scheme; its first reply field is clear
@@ -299,7 +299,7 @@ draws_component ty scheme = record (checks_keys (Target (Named ty) scheme None �
   clear = 0 ∷ [];
 }
 
-unfoldable pub rules_GC : RowRules
+abbrev pub rules_GC : RowRules
 rules_GC = draws_component 0 1
 
 -- FK: type, scheme, two or three components
@@ -311,23 +311,23 @@ joins ty scheme first second third = record (checks_keys (Target (Named ty) sche
   components = first ∷ second ∷ third ∷ [];
 }
 
-unfoldable pub rules_FK : RowRules
+abbrev pub rules_FK : RowRules
 rules_FK = joins 0 1 2 3 4
 
 -- RA: no fields
-unfoldable pub rules_RA : RowRules
+abbrev pub rules_RA : RowRules
 rules_RA = asks CancelAllAsk
 
 -- A: activity, minutes, the two officers' words
-unfoldable pub rules_A : RowRules
+abbrev pub rules_A : RowRules
 rules_A = asks AuthoriseAsk
 
 -- C: activity or star
-unfoldable pub rules_C : RowRules
+abbrev pub rules_C : RowRules
 rules_C = asks CancelAsk
 
 -- LOG: no fields
-unfoldable pub rules_LOG : RowRules
+abbrev pub rules_LOG : RowRules
 rules_LOG = asks RecentAsk
 
 -- the rules of a name

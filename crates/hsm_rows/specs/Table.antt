@@ -7,8 +7,6 @@ use Rattle.hsm_rows.specs.Rules.{RowRules, rules_in}
 use Rattle.hsm_rows.specs.declared.rules.RuleSet.{RuleSet}
 use Rattle.hsm_rows.specs.declared.rules.RuleSet.TheVariants as set
 use Rattle.hsm_rows.specs.declared.row.Row.{Row}
-use Rattle.hsm_rows.specs.declared.row.Family.{Family}
-use Rattle.hsm_rows.specs.declared.row.Family.TheVariants as family
 use Rattle.hsm_rows.specs.declared.row.Field.{Field}
 use Rattle.hsm_rows.specs.declared.row.Form.{Form}
 use Rattle.hsm_rows.specs.declared.row.Public.{Public}
@@ -31,8 +29,6 @@ term_of t = term t
 pub record RowShape : Type 0 where
   pub code : List ℕ
   pub reply : List ℕ
-  -- the commands that one crate answers
-  pub family : Family
   pub fields : List Field
   pub terms : List Term
   -- what it asks beyond its forms
@@ -40,7 +36,7 @@ pub record RowShape : Type 0 where
 
 -- a row of the table
 abbrev pub shape_of : Row → RowShape
-shape_of r = record { code = r.code.now; reply = r.reply.now; family = r.family; fields = r.fields.now; terms = map term_of r.terms.now; rules = r.rules }
+shape_of r = record { code = r.code.now; reply = r.reply.now; fields = r.fields.now; terms = map term_of r.terms.now; rules = r.rules }
 
 -- the row that is pointed to
 abbrev pub shown_shape : Bor Row → RowShape
@@ -51,239 +47,239 @@ abbrev pub field : Form → ℕ → Field
 field f c = record { form = f; code = record { 0 = c } }
 
 -- a row of these columns
-abbrev pub make_row : List ℕ → List ℕ → Family → RuleSet → List Field → List Term → RowShape
-make_row c r of rules f t = record { code = c; reply = r; family = of; fields = f; terms = t; rules = rules }
+abbrev pub make_row : List ℕ → List ℕ → RuleSet → List Field → List Term → RowShape
+make_row c r rules f t = record { code = c; reply = r; fields = f; terms = t; rules = rules }
 
 -- what a row asks beyond its forms
 abbrev pub rules_of : RowShape → RowRules
 rules_of row = rules_in row.rules
 
 -- A0: draw a key
-unfoldable pub row_A0 : RowShape
+abbrev pub row_A0 : RowShape
 row_A0 =
     let kek : ℕ = 4 in
-    make_row (codes "A0") (codes "A1") family.Key set.A0
+    make_row (codes "A0") (codes "A1") set.A0
     (field form.ZeroToOne 15 ∷ field form.KeyType 4 ∷ field form.Scheme 26 ∷ field form.Mode1Wrapper 15 ∷ field form.Mode1Key 15 ∷ field form.Mode1WrapScheme 26 ∷ [])
     (term (public.Sealed secret.DrawnKey) ∷ term (public.SealedUnder secret.DrawnKey kek) ∷ term (public.CheckValue secret.DrawnKey) ∷ [])
 
 -- A6: import a key
-unfoldable pub row_A6 : RowShape
+abbrev pub row_A6 : RowShape
 row_A6 =
     let zmk : ℕ = 1 in
     let wrapped : ℕ = 2 in
-    make_row (codes "A6") (codes "A7") family.Key set.A6
+    make_row (codes "A6") (codes "A7") set.A6
     (field form.KeyType 4 ∷ field form.Key 15 ∷ field form.WrappedKey 15 ∷ field form.Scheme 26 ∷ [])
     (term (public.Sealed (secret.OpenedUnder wrapped zmk)) ∷ term (public.CheckValue (secret.OpenedUnder wrapped zmk)) ∷ [])
 
 -- A8: export a key
-unfoldable pub row_A8 : RowShape
+abbrev pub row_A8 : RowShape
 row_A8 =
     let kek : ℕ = 2 in
     let exported : ℕ = 3 in
-    make_row (codes "A8") (codes "A9") family.Key set.A8
+    make_row (codes "A8") (codes "A9") set.A8
     (field form.KeyType 4 ∷ field form.Wrapper 15 ∷ field form.Key 15 ∷ field form.Key 15 ∷ field form.WrapScheme 26 ∷ [])
     (term (public.SealedUnder (secret.Opened exported) kek) ∷ term (public.CheckValue (secret.Opened exported)) ∷ [])
 
 -- BU: the check value of a key
-unfoldable pub row_BU : RowShape
+abbrev pub row_BU : RowShape
 row_BU =
     let pair_code : ℕ = 0 in
     let flag : ℕ = 1 in
     let checked : ℕ = 2 in
-    make_row (codes "BU") (codes "BV") family.Key set.Bu
+    make_row (codes "BU") (codes "BV") set.Bu
     (field form.Type2 4 ∷ field form.Flag 5 ∷ field (form.KeyByFlag flag) 15 ∷ field (form.FfSemicolon pair_code) 15 ∷ field (form.FfType pair_code) 4 ∷ [])
     (term (public.CheckValue (secret.Opened checked)) ∷ [])
 
 -- CA: translate a PIN block from a TPK to a ZPK
-unfoldable pub row_CA : RowShape
+abbrev pub row_CA : RowShape
 row_CA =
     let zpk : ℕ = 1 in
     let second_format : ℕ = 5 in
-    make_row (codes "CA") (codes "CB") family.Pin set.Ca
+    make_row (codes "CA") (codes "CB") set.Ca
     (field form.Key 15 ∷ field form.Key 15 ∷ field form.Length 15 ∷ field form.Hex16 15 ∷ field form.Format 23 ∷ field form.Format 23 ∷ field form.Digits12 15 ∷ [])
     (term public.PinLength ∷ term (public.BlockUnder second_format zpk) ∷ term (public.Given second_format) ∷ [])
 
 -- CC: translate a PIN block from a ZPK to a ZPK
-unfoldable pub row_CC : RowShape
+abbrev pub row_CC : RowShape
 row_CC =
     let zpk : ℕ = 1 in
     let second_format : ℕ = 5 in
-    make_row (codes "CC") (codes "CD") family.Pin set.Cc
+    make_row (codes "CC") (codes "CD") set.Cc
     (field form.Key 15 ∷ field form.Key 15 ∷ field form.Length 15 ∷ field form.Hex16 15 ∷ field form.Format 23 ∷ field form.Format 23 ∷ field form.Digits12 15 ∷ [])
     (term public.PinLength ∷ term (public.BlockUnder second_format zpk) ∷ term (public.Given second_format) ∷ [])
 
 -- DE: make an offset
-unfoldable pub row_DE : RowShape
+abbrev pub row_DE : RowShape
 row_DE =
-    make_row (codes "DE") (codes "DF") family.Pin set.De
+    make_row (codes "DE") (codes "DF") set.De
     (field form.Key 15 ∷ field form.Hex16 15 ∷ field form.Length 15 ∷ field form.Digits12 15 ∷ field form.Digits16 15 ∷ field form.Validation 15 ∷ [])
     (term public.Value ∷ [])
 
 -- DG: make a PVV
-unfoldable pub row_DG : RowShape
+abbrev pub row_DG : RowShape
 row_DG =
-    make_row (codes "DG") (codes "DH") family.Pin set.Dg
+    make_row (codes "DG") (codes "DH") set.Dg
     (field form.Pair 15 ∷ field form.Hex16 15 ∷ field form.Digits12 15 ∷ field form.Digits1 15 ∷ [])
     (term public.Value ∷ [])
 
 -- DA: verify a terminal's PIN by an offset
-unfoldable pub row_DA : RowShape
+abbrev pub row_DA : RowShape
 row_DA =
     let check_length : ℕ = 5 in
-    make_row (codes "DA") (codes "DB") family.Pin set.Da
+    make_row (codes "DA") (codes "DB") set.Da
     (field form.Key 15 ∷ field form.Key 15 ∷ field form.Length 15 ∷ field form.Hex16 15 ∷ field form.Format 23 ∷ field form.Length 15 ∷ field form.Digits12 15 ∷ field form.Digits16 15 ∷ field form.Validation 15 ∷ field (form.Offset check_length) 15 ∷ [])
     []
 
 -- EA: verify another zone's PIN by an offset
-unfoldable pub row_EA : RowShape
+abbrev pub row_EA : RowShape
 row_EA =
     let check_length : ℕ = 5 in
-    make_row (codes "EA") (codes "EB") family.Pin set.Ea
+    make_row (codes "EA") (codes "EB") set.Ea
     (field form.Key 15 ∷ field form.Key 15 ∷ field form.Length 15 ∷ field form.Hex16 15 ∷ field form.Format 23 ∷ field form.Length 15 ∷ field form.Digits12 15 ∷ field form.Digits16 15 ∷ field form.Validation 15 ∷ field (form.Offset check_length) 15 ∷ [])
     []
 
 -- DC: verify a terminal's PIN by a PVV
-unfoldable pub row_DC : RowShape
+abbrev pub row_DC : RowShape
 row_DC =
-    make_row (codes "DC") (codes "DD") family.Pin set.Dc
+    make_row (codes "DC") (codes "DD") set.Dc
     (field form.Key 15 ∷ field form.Pair 15 ∷ field form.Hex16 15 ∷ field form.Format 23 ∷ field form.Digits12 15 ∷ field form.Digits1 15 ∷ field form.Digits4 15 ∷ [])
     []
 
 -- EC: verify another zone's PIN by a PVV
-unfoldable pub row_EC : RowShape
+abbrev pub row_EC : RowShape
 row_EC =
-    make_row (codes "EC") (codes "ED") family.Pin set.Ec
+    make_row (codes "EC") (codes "ED") set.Ec
     (field form.Key 15 ∷ field form.Pair 15 ∷ field form.Hex16 15 ∷ field form.Format 23 ∷ field form.Digits12 15 ∷ field form.Digits1 15 ∷ field form.Digits4 15 ∷ [])
     []
 
 -- BA: seal a clear PIN
-unfoldable pub row_BA : RowShape
+abbrev pub row_BA : RowShape
 row_BA =
-    make_row (codes "BA") (codes "BB") family.Pin set.Ba
+    make_row (codes "BA") (codes "BB") set.Ba
     (field form.ClearPin 15 ∷ field form.Digits12 15 ∷ [])
     (term public.SealedPin ∷ [])
 
 -- NG: show a PIN
-unfoldable pub row_NG : RowShape
+abbrev pub row_NG : RowShape
 row_NG =
-    make_row (codes "NG") (codes "NH") family.Pin set.Ng
+    make_row (codes "NG") (codes "NH") set.Ng
     (field form.Digits12 15 ∷ field form.Hex16 15 ∷ [])
     (term public.ShowPin ∷ [])
 
 -- JA: draw a PIN
-unfoldable pub row_JA : RowShape
+abbrev pub row_JA : RowShape
 row_JA =
-    make_row (codes "JA") (codes "JB") family.Pin set.Ja
+    make_row (codes "JA") (codes "JB") set.Ja
     (field form.Digits12 15 ∷ field form.Length 15 ∷ [])
     (term public.SealedPin ∷ [])
 
 -- CW: make a CVV
-unfoldable pub row_CW : RowShape
+abbrev pub row_CW : RowShape
 row_CW =
-    make_row (codes "CW") (codes "CX") family.Data set.Cw
+    make_row (codes "CW") (codes "CX") set.Cw
     (field form.Pair 15 ∷ field form.Account 15 ∷ field form.Digits4 15 ∷ field form.Digits3 15 ∷ [])
     (term public.Value ∷ [])
 
 -- CY: verify a CVV
-unfoldable pub row_CY : RowShape
+abbrev pub row_CY : RowShape
 row_CY =
-    make_row (codes "CY") (codes "CZ") family.Data set.Cy
+    make_row (codes "CY") (codes "CZ") set.Cy
     (field form.Pair 15 ∷ field form.Digits3 15 ∷ field form.Account 15 ∷ field form.Digits4 15 ∷ field form.Digits3 15 ∷ [])
     []
 
 -- M6: make a MAC
-unfoldable pub row_M6 : RowShape
+abbrev pub row_M6 : RowShape
 row_M6 =
     let input : ℕ = 1 in
-    make_row (codes "M6") (codes "M7") family.Data set.M6
+    make_row (codes "M6") (codes "M7") set.M6
     (field form.ZeroToThree 15 ∷ field form.ZeroToTwo 15 ∷ field form.ZeroToOne 15 ∷ field form.OneOrThree 15 ∷ field form.ZeroToThree 15 ∷ field form.MacType 4 ∷ field form.Key 15 ∷ field form.Mode23Chain 15 ∷ field form.Count 15 ∷ field (form.DataByInput input) 15 ∷ [])
     (term public.Value ∷ term public.Chain ∷ [])
 
 -- M8: verify a MAC
-unfoldable pub row_M8 : RowShape
+abbrev pub row_M8 : RowShape
 row_M8 =
     let input : ℕ = 1 in
     let mac_size : ℕ = 2 in
-    make_row (codes "M8") (codes "M9") family.Data set.M8
+    make_row (codes "M8") (codes "M9") set.M8
     (field form.ZeroToThree 15 ∷ field form.ZeroToTwo 15 ∷ field form.ZeroToOne 15 ∷ field form.OneOrThree 15 ∷ field form.ZeroToThree 15 ∷ field form.MacType 4 ∷ field form.Key 15 ∷ field form.Mode23Chain 15 ∷ field form.Count 15 ∷ field (form.DataByInput input) 15 ∷ field (form.Mode03Mac mac_size) 15 ∷ [])
     (term public.Chain ∷ [])
 
 -- B2: echo data
-unfoldable pub row_B2 : RowShape
+abbrev pub row_B2 : RowShape
 row_B2 =
     let echoed : ℕ = 1 in
-    make_row (codes "B2") (codes "B3") family.Data set.Plain
+    make_row (codes "B2") (codes "B3") set.Plain
     (field form.Count 15 ∷ field form.Data 15 ∷ [])
     (term (public.Given echoed) ∷ [])
 
 -- NC: the LMK check
-unfoldable pub row_NC : RowShape
+abbrev pub row_NC : RowShape
 row_NC =
-    make_row (codes "NC") (codes "ND") family.Data set.Plain
+    make_row (codes "NC") (codes "ND") set.Plain
     []
     (term public.LmkCheck ∷ plain_text (codes "0001-LAB1") ∷ [])
 
 -- NO: the state of the module
-unfoldable pub row_NO : RowShape
+abbrev pub row_NO : RowShape
 row_NO =
-    make_row (codes "NO") (codes "NP") family.Data set.Looks
+    make_row (codes "NO") (codes "NP") set.Looks
     (field form.TwoZeros 15 ∷ [])
     (term public.LiveGrants ∷ term public.Hosts ∷ [])
 
 -- RA: cancel all grants
-unfoldable pub row_RA : RowShape
+abbrev pub row_RA : RowShape
 row_RA =
-    make_row (codes "RA") (codes "RB") family.Data set.Ra
+    make_row (codes "RA") (codes "RB") set.Ra
     []
     []
 
 -- A: authorise an activity
-unfoldable pub row_A : RowShape
+abbrev pub row_A : RowShape
 row_A =
-    make_row (codes "A") [] family.Console set.A
+    make_row (codes "A") [] set.A
     (field form.Act 15 ∷ field form.Minutes 15 ∷ field form.Word 15 ∷ field form.Word 15 ∷ [])
     (term public.Done ∷ [])
 
 -- C: cancel a grant, or all
-unfoldable pub row_C : RowShape
+abbrev pub row_C : RowShape
 row_C =
-    make_row (codes "C") [] family.Console set.C
+    make_row (codes "C") [] set.C
     (field form.ActOrAll 15 ∷ [])
     (term public.Cancelled ∷ [])
 
 -- VA: list the live grants
-unfoldable pub row_VA : RowShape
+abbrev pub row_VA : RowShape
 row_VA =
-    make_row (codes "VA") [] family.Console set.Looks
+    make_row (codes "VA") [] set.Looks
     []
     (term public.Grants ∷ [])
 
 -- Q: the numbers of the ledger
-unfoldable pub row_Q : RowShape
+abbrev pub row_Q : RowShape
 row_Q =
-    make_row (codes "Q") [] family.Console set.Looks
+    make_row (codes "Q") [] set.Looks
     []
     (term public.Numbers ∷ [])
 
 -- LOG: list the last notes
-unfoldable pub row_LOG : RowShape
+abbrev pub row_LOG : RowShape
 row_LOG =
-    make_row (codes "LOG") [] family.Console set.Log
+    make_row (codes "LOG") [] set.Log
     []
     (term public.Notes ∷ [])
 
 -- GC: draw a component
-unfoldable pub row_GC : RowShape
+abbrev pub row_GC : RowShape
 row_GC =
-    make_row (codes "GC") [] family.Console set.Gc
+    make_row (codes "GC") [] set.Gc
     (field form.KeyType 4 ∷ field form.Scheme 26 ∷ [])
     (term (public.ShowKey secret.DrawnKey) ∷ term (public.Sealed secret.DrawnKey) ∷ term (public.CheckValue secret.DrawnKey) ∷ [])
 
 -- FK: form a key from components
-unfoldable pub row_FK : RowShape
+abbrev pub row_FK : RowShape
 row_FK =
     let scheme : ℕ = 1 in
-    make_row (codes "FK") [] family.Console set.Fk
+    make_row (codes "FK") [] set.Fk
     (field form.KeyType 4 ∷ field form.Scheme 26 ∷ field (form.Component scheme) 15 ∷ field (form.Component scheme) 15 ∷ field (form.LastComponent scheme) 15 ∷ [])
     (term (public.Sealed secret.Joined) ∷ term (public.CheckValue secret.Joined) ∷ [])
 

@@ -8,7 +8,7 @@ mod laws;
 mod listing;
 mod read;
 mod row;
-mod ruled;
+mod row_rules;
 mod rules;
 mod settings;
 mod table;
@@ -21,7 +21,7 @@ pub use laws::{
 };
 pub use listing::explain;
 pub use read::{Fields, is_console, read_fields};
-pub use row::{Code, Family, Field, Form, Public, Row, Secret};
+pub use row::{Code, Field, Form, Public, Row, Secret};
 pub use rules::{
     ActUse, AskKind, DataCheck, FixedNeed, KeyCheck, LengthRule, MacFields, Made, PinSource,
     RuleSet, Rules, TypeSource, Under, ValueSource, Words,

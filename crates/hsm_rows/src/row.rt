@@ -173,23 +173,12 @@ pub struct Field {
     pub code: Code,
 }
 
-/// The commands that one crate answers.
-#[derive(Clone, Copy, Debug, PartialEq, Eq)]
-pub enum Family {
-    Key,
-    Pin,
-    /// CVVs, MACs, echo and diagnostics.
-    Data,
-    Console,
-}
-
 /// A row of the command table. A host row has a command code and a reply code of two characters;
 /// a console row has a word, and an empty reply code.
 #[derive(Clone, Copy, Debug, PartialEq, Eq)]
 pub struct Row {
     pub code: &'static [u8],
     pub reply: &'static [u8],
-    pub family: Family,
     pub fields: &'static [Field],
     pub terms: &'static [Public],
     /// What it asks beyond its forms.

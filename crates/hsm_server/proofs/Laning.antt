@@ -1,5 +1,5 @@
 -- The connections of a lane, one after another.
-use Rattle.std.proofs.Common.{◌≡◌, ℕ, zero, suc, ◌+◌, ◌-◌, ◌^◌, ◌==◌, min, max, Bool, true, false, not, cond, List, [], ◌∷◌, ◌++◌, length, map, Option, Some, refl, sym, ap, subst, ◌∙◌, append_assoc, append-nil, length-append, add-zero, zero-add, arith, rules}
+use Rattle.std.proofs.Common.{◌≡◌, ℕ, zero, suc, ◌+◌, ◌-◌, ◌^◌, ◌==◌, min, max, Bool, true, false, not, cond, List, [], ◌∷◌, ◌++◌, length, flat_map, map, Option, Some, refl, sym, ap, subst, ◌∙◌, append_assoc, append-nil, length-append, add-zero, zero-add, arith, rules}
 use Rattle.std.specs.List.{AllZip}
 use Rattle.std.proofs.lemmas.Grind.{flat_map-append}
 use Rattle.std.proofs.lemmas.List.{map-append}
@@ -8,7 +8,7 @@ use Rattle.std.proofs.lemmas.List.Sums.{sum_by-append}
 use Rattle.hsm_auth.specs.declared.entry.Entry.{Entry}
 use Rattle.hsm_desk.specs.Passes.{Sound}
 use Rattle.hsm_io.specs.Connections.{Breaks, Doorway, Taken, TakesBack, Traffic, silent}
-use Rattle.hsm_io.specs.Gates.{GateCall, gate_calls}
+use Rattle.hsm_io.specs.Gates.{GateCall}
 use Rattle.hsm_rows.specs.declared.settings.Module.{Module}
 use Rattle.hsm_auth.specs.declared.activity.Place.{Place}
 use Rattle.hsm_session.specs.declared.serving.ConnEnd.{ConnEnd}
@@ -16,9 +16,9 @@ use Rattle.hsm_session.specs.declared.serving.ConnEnd.TheVariants.{Clean, Cut, S
 use Rattle.hsm_session.specs.declared.serving.Report.{Report}
 use Rattle.hsm_lmk.specs.Cache.{Agrees, Kept}
 use Rattle.hsm_lmk.specs.Caches.{capacity_of, kept_in}
-use Rattle.hsm_session.specs.Connections.{EndCause, Scene, Serves, Talks, scene}
-use Rattle.hsm_session.specs.Lanes.{IsCacheOf}
-use Rattle.hsm_server.specs.Lanes.{CountsHits, LaneState, Served, ServesAll, IsServed, IsToldBy, TakesConnections, all_calls, all_entries, all_reports, bytes_of, fault_count, is_fault, nothing_kept, place_of, message_count, risen}
+use Rattle.hsm_session.specs.Connections.{AreCallsFor, EndCause, Scene, Serves, Talks, scene}
+use Rattle.hsm_answers.specs.Kept.{IsCacheOf}
+use Rattle.hsm_server.specs.Lanes.{AreAllCalls, CountsHits, LaneState, Served, ServesAll, IsServed, IsToldBy, TakesConnections, all_entries, all_reports, bytes_of, fault_count, is_fault, nothing_kept, place_of, message_count, risen}
 use Rattle.hsm_server.proofs.Joining.{makes_none, makes_both, clock_none, clock_both, nothing_both}
 use Rattle.hsm_server.proofs.Keeping.{hits_more, keeps_more, keeps_none}
 
@@ -62,11 +62,19 @@ entries_more : (connections : List Served) (served : Served) → all_entries con
 entries_more connections served =
     sym (flat_map-append (λ s. s.entries) connections (served ∷ []) ∙ ap (λ (last : List (ℕ × Entry)). all_entries connections ++ last) (append-nil served.entries))
 
-calls_more : (number : ℕ) (connections : List Served) (served : Served)
-    → all_calls number connections ++ gate_calls number 0 (length served.entries) ≡ all_calls number (connections ++ served ∷ [])
-calls_more number connections served =
-    let of_one : List GateCall = gate_calls number 0 (length served.entries) in
-    sym (flat_map-append (λ s. gate_calls number 0 (length s.entries)) connections (served ∷ []) ∙ ap (λ (last : List GateCall). all_calls number connections ++ last) (append-nil of_one))
+calls_none : (number : ℕ) → AreAllCalls number [] []
+calls_none number = record { of_each = []; each = tt; joined = refl }
+
+calls_more : (number : ℕ) (connections : List Served) (served : Served) (calls own : List GateCall)
+    → AreAllCalls number connections calls → AreCallsFor number (length served.entries) own → AreAllCalls number (connections ++ served ∷ []) (calls ++ own)
+calls_more number connections served calls own all last = record {
+  of_each = all.of_each ++ own ∷ [];
+  each = zip_push (λ (s : Served) (cs : List GateCall). AreCallsFor number (length s.entries) cs) connections all.of_each served own all.each last;
+  joined =
+      ap (λ (front : List GateCall). front ++ own) all.joined
+      ∙ ap (λ (back : List GateCall). flat_map (λ cs. cs) all.of_each ++ back) (sym (append-nil own))
+      ∙ sym (flat_map-append (λ (cs : List GateCall). cs) all.of_each (own ∷ []));
+}
 
 reports_more : (connections : List Served) (served : Served) → all_reports connections ++ served.report ∷ [] ≡ all_reports (connections ++ served ∷ [])
 reports_more connections served = sym (map-append (λ s. s.report) connections (served ∷ []))
@@ -110,7 +118,7 @@ serves_none m s sound = record {
   made = makes_none s.pass sound;
   each = λ k served within. absurd (omega (arith, within));
   clock = clock_none s.last s.moments;
-  gate = λ calls is. is ∙ ap (λ (cs : List GateCall). Some cs) (sym (append-nil calls));
+  gate = λ calls is. ([], calls_none s.number, is ∙ ap (λ (cs : List GateCall). Some cs) (sym (append-nil calls)));
   hosts = λ host i placed at. absurd (cc);
   keeps = keeps_none m (place_of s.number) s.cache;
   hits = λ j served at. absurd (cc);
@@ -153,10 +161,12 @@ serves_more m start s t connections between broken_between traffic_before traffi
       each = All-push (IsServed m kind) connections served a.each (record { each = serves.each; reported = serves.reported });
       clock = rw (← entries) (clock_both start.last s.last t.last start.moments s.moments t.moments (all_entries connections) serves.entries a.clock serves.clock);
       gate = λ calls is.
-          serves.gate _ (a.gate calls is)
-          ∙ ap (λ (cs : List GateCall). Some cs)
-          (append_assoc calls (all_calls start.number connections) (gate_calls start.number 0 (length serves.entries))
-          ∙ ap (λ (rest : List GateCall). calls ++ rest) (calls_more start.number connections served));
+          let so_far = a.gate calls is in
+          let own = serves.gate _ so_far.2 in (
+            so_far.0 ++ own.0,
+            calls_more start.number connections served so_far.0 own.0 so_far.1 own.1,
+            own.2 ∙ ap (λ (cs : List GateCall). Some cs) (append_assoc calls so_far.0 own.0),
+          );
       hosts = λ host. rw (← entries) (nothing_both (all_entries connections) serves.entries (a.hosts host) (serves.hosts host));
       keeps = keeps;
       hits = hits_more m kind (capacity_of start.cache) (kept_in start.cache) connections served a.hits (serves.hits ∙ ap (λ (k : Kept). k.hits) keeps.kept);

@@ -5,7 +5,7 @@ use Rattle.atomic_table.specs.Seated.{TableId}
 use Rattle.hsm_auth.specs.declared.entry.Entry.{Entry}
 use Rattle.hsm_desk.specs.Passes.{PassView, Makes}
 use Rattle.hsm_io.specs.Connections.{Doorway, Taken, silent}
-use Rattle.hsm_io.specs.Gates.{GateCall, gate_calls}
+use Rattle.hsm_io.specs.Gates.{GateCall}
 use Rattle.hsm_io.specs.Outside.{HasCause}
 use Rattle.hsm_lmk.specs.Cache.{Kept}
 use Rattle.hsm_lmk.specs.Caches.{capacity_of, kept_in}
@@ -16,8 +16,8 @@ use Rattle.hsm_auth.specs.declared.activity.Place.TheVariants.{Host, Console}
 use Rattle.hsm_session.specs.declared.serving.ConnEnd.{ConnEnd}
 use Rattle.hsm_session.specs.declared.serving.ConnEnd.TheVariants.{Clean, Cut, Short, ReadFault, WriteFault}
 use Rattle.hsm_session.specs.declared.serving.Report.{Report}
-use Rattle.hsm_session.specs.Connections.{IsEntryFor, AskClock, AuthoriseNothing, Keeps, Reports, Talks, kept_after}
-use Rattle.hsm_session.specs.Plans.{least_for}
+use Rattle.hsm_session.specs.Connections.{AreCallsFor, IsEntryFor, AskClock, AuthoriseNothing, Keeps, Reports, Talks, kept_after}
+use Rattle.hsm_answers.specs.Messages.{least_for}
 use Rattle.hsm_server.specs.declared.lane.Lane.{Lane}
 use Rattle.hsm_server.specs.declared.lane.LaneEnd.{LaneEnd}
 
@@ -97,9 +97,12 @@ all_entries connections = flat_map (λ served. served.entries) connections
 abbrev pub all_reports : List Served → List Report
 all_reports connections = map (λ served. served.report) connections
 
--- the calls of a gate for all these connections of the lane of this number, in their order: the messages of each are counted from 0
-abbrev pub all_calls : ℕ → List Served → List GateCall
-all_calls number connections = flat_map (λ served. gate_calls number 0 (length served.entries)) connections
+-- The calls of a gate for all these connections of the lane of this number: those for the messages of each, counted from 0,
+-- one connection after another.
+pub record AreAllCalls (number : ℕ) (connections : List Served) (calls : List GateCall) : Type 0 where
+  pub of_each : List (List GateCall)
+  pub each : AllZip (λ served own. AreCallsFor number (length served.entries) own) connections of_each
+  pub joined : calls ≡ flat_map (λ own. own) of_each
 
 -- how often a key was found by the end of connection j, that one included, by a cache of this capacity that kept this before the first of them
 abbrev pub hits_by : Module → Place → ℕ → Kept → List Served → ℕ → ℕ
@@ -153,7 +156,7 @@ pub record TakesConnections (m : Module) (kind : Place) (before after : Doorway)
   pub each : AllZip (IsToldBy m kind) connections ended
 
 -- A lane served these connections, one after another. Its pass made just their entries, for each of which the clock was
--- asked once, and around which the gate was called; a host's authorise nothing. It keeps the keys that all their messages
+-- asked once, and the gate was called once before and once after; a host's authorise nothing. It keeps the keys that all their messages
 -- opened, from one connection to the next. The door counts a failed connection for each report that names a fault.
 pub record ServesAll (m : Module) (before after : LaneState) (connections : List Served) : Type 0 where
   pub number : after.number ≡ before.number
@@ -164,7 +167,8 @@ pub record ServesAll (m : Module) (before after : LaneState) (connections : List
   pub made : Makes before.pass after.pass (all_entries connections)
   pub each : All (IsServed m (place_of before.number)) connections
   pub clock : AskClock before.last after.last before.moments after.moments (all_entries connections)
-  pub gate : (calls : List GateCall) → before.calls ≡ Some calls → after.calls ≡ Some (calls ++ all_calls before.number connections)
+  pub gate : (calls : List GateCall) → before.calls ≡ Some calls →
+      (more : List GateCall) × AreAllCalls before.number connections more × (after.calls ≡ Some (calls ++ more))
   pub hosts : place_of before.number ≡ Host → AuthoriseNothing (all_entries connections)
   pub keeps : Keeps m (place_of before.number) before.cache after.cache (all_messages connections)
   pub hits : CountsHits m (place_of before.number) (capacity_of before.cache) (kept_in before.cache) connections

@@ -6,7 +6,7 @@ use Rattle.hsm_frame.specs.Laws.{HasOneReading}
 use Rattle.hsm_auth.specs.declared.entry.Entry.{Entry}
 use Rattle.hsm_rows.specs.declared.settings.Module.{Module}
 use Rattle.hsm_session.specs.declared.script.ScriptEnd.{ScriptEnd}
-use Rattle.hsm_session.specs.Plans.{least_length}
+use Rattle.hsm_answers.specs.Messages.{least_length}
 use Rattle.hsm_session.specs.Booking.{answer_lines, entries_of}
 use Rattle.hsm_session.specs.Cuts.{IsOpen}
 use Rattle.hsm_session.specs.Scripts.{Said, Piece}

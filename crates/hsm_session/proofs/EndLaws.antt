@@ -7,7 +7,7 @@ use Rattle.hsm_io.proofs.TextLemmas.{appends_then_front, front_of_more}
 use Rattle.hsm_frame.specs.Frames.{StreamEnd}
 use Rattle.hsm_rows.specs.declared.settings.Module.{Module}
 use Rattle.hsm_session.specs.declared.lane.ScriptLane.{ScriptLane}
-use Rattle.hsm_session.specs.Plans.{least_length}
+use Rattle.hsm_answers.specs.Messages.{least_length}
 use Rattle.hsm_session.specs.Runs.{end_line, end_lines}
 use Rattle.hsm_session.specs.Lanes.{IsLaneAt, all_held, lane_end}
 

@@ -6,7 +6,7 @@ use Rattle.hsm_frame.specs.Laws.{HasReading}
 use Rattle.hsm_auth.specs.declared.activity.Place.TheVariants as place
 use Rattle.hsm_auth.specs.declared.entry.Entry.{Entry}
 use Rattle.hsm_rows.specs.declared.settings.Module.{Module}
-use Rattle.hsm_session.specs.Plans.{least_length}
+use Rattle.hsm_answers.specs.Messages.{least_length}
 use Rattle.hsm_session.specs.Scripts.{Said, Nothing, Moment, Piece, Console}
 use Rattle.hsm_session.specs.Booking.{console_line, entries_of, entry_of, reply_of}
 use Rattle.hsm_session.specs.Runs.{AreEnds, IsRunOfLines, IsRunOfLine, brought, got, moment_at, piece_text}

@@ -7,7 +7,7 @@ use Rattle.hsm_frame.specs.Laws.{HasOneReading, HasReading}
 use Rattle.hsm_auth.specs.declared.entry.Entry.{Entry}
 use Rattle.hsm_rows.specs.declared.settings.Module.{Module}
 use Rattle.hsm_session.specs.declared.script.ScriptEnd.{ScriptEnd}
-use Rattle.hsm_session.specs.Plans.{least_length}
+use Rattle.hsm_answers.specs.Messages.{least_length}
 use Rattle.hsm_auth.specs.declared.activity.Place.TheVariants as place
 use Rattle.hsm_session.specs.Booking.{console_line, entries_of, entry_of, reply_of}
 use Rattle.hsm_session.specs.Scripts.{Said, Nothing, Moment, Piece, Console, script_of}

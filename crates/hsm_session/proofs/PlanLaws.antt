@@ -1,20 +1,32 @@
 -- The row of a message, what it asks and what it is answered.
-use Rattle.std.proofs.Common.{◌≡◌, ℕ, ◌+◌, ◌≤◌, Bool, true, false, cond, List, [], ◌∷◌, ◌++◌, length, take, drop, Option, Some, None, refl, sym, ap, ◌∙◌, arith, length-drop}
-use Rattle.std.specs.List.{list_any}
+use Rattle.std.proofs.Common.{◌≡◌, ℕ, ◌+◌, ◌≤◌, Bool, true, false, cond, List, [], ◌∷◌, ◌++◌, length, Option, Some, None, Result, Ok, Err, is_some, if◌then◌else◌, refl, sym, ap, ◌∙◌, arith, length-drop}
+use Rattle.std.specs.List.{list_all, list_any}
 use Rattle.std.specs.Str.{bytes_eq}
-use Rattle.std.specs.Prelude.{slice_index}
-use Rattle.std.proofs.lemmas.List.{drop-drop, length-take-le}
-use Rattle.hsm_auth.specs.declared.entry.Granted.{Granted}
-use Rattle.hsm_rows.specs.declared.settings.Module.{Module}
-use Rattle.hsm_rows.specs.Table.{RowShape, console_rows, row_A, row_C, row_VA, row_Q, row_LOG, row_GC, row_FK}
-use Rattle.hsm_answers.specs.Asks.{empty_ask, ask_of}
-use Rattle.hsm_answers.specs.Answers.{answer}
-use Rattle.hsm_answers.specs.Messages.{header_of, command_of, text_after, enabled_row, unknown_answer, ask_by, answer_by, message_ask, message_answer}
+use Rattle.std.specs.Prelude.{IfSome, slice_index}
+use Rattle.std.specs.Borrow.{Bor}
+use Rattle.std.proofs.lemmas.List.{length-take-le}
 use Rattle.hsm_auth.specs.declared.activity.Place.{Place}
 use Rattle.hsm_auth.specs.declared.activity.Place.TheVariants.{Host, Console}
-use Rattle.hsm_session.specs.declared.plans.Planned.{Planned}
-use Rattle.hsm_session.specs.declared.plans.Planned.TheVariants.{Unknown}
-use Rattle.hsm_session.specs.Plans.{IsPlanOfMessage, IsOwnPlan, least_for, planned_row, planned_text}
+use Rattle.hsm_auth.specs.declared.entry.Granted.{Granted}
+use Rattle.hsm_lmk.specs.declared.kept.KeyEntry.{KeyEntry}
+use Rattle.hsm_rows.specs.declared.row.Code.{Code}
+use Rattle.hsm_rows.specs.declared.row.Row.{Row}
+use Rattle.hsm_rows.specs.declared.rules.KeyCheck.{KeyCheck}
+use Rattle.hsm_rows.specs.declared.rules.KeyCheck.TheVariants.{GivenKey, Target}
+use Rattle.hsm_rows.specs.declared.settings.Module.{Module}
+use Rattle.hsm_rows.specs.Reading.{ReadText, reading}
+use Rattle.hsm_rows.specs.Rules.{RowRules}
+use Rattle.hsm_rows.specs.Table.{RowShape, console_rows, host_rows, row_with, rules_of, shape_of}
+use Rattle.hsm_rows.proofs.RowLemmas.{all_by}
+use Rattle.hsm_answers.specs.Asks.{empty_ask, ask_of}
+use Rattle.hsm_answers.specs.Answers.{answer}
+use Rattle.hsm_answers.specs.Keys.{key_fault}
+use Rattle.hsm_answers.specs.Kept.{checks_entries, opened_by, opened_in, opened_of, read_entries}
+use Rattle.hsm_answers.specs.Messages.{header_of, command_of, text_after, enabled_row, unknown_answer, ask_by, answer_by, message_ask, message_answer, least_for}
+use Rattle.hsm_answers.proofs.ClearAnswers.{enabled_among}
+use Rattle.hsm_commands.specs.declared.plan.Plan.{Plan as CommandPlan}
+use Rattle.hsm_commands.specs.Plans.{IsFollowed, IsPlanOf, plan_row, plan_text}
+use Rattle.hsm_session.specs.Plans.{IsCommandOf}
 
 -- a list of two bytes by its bytes
 two_bytes : (code : List ℕ) → length code ≡ 2 → slice_index code 0 ∷ slice_index code 1 ∷ [] ≡ code
@@ -22,6 +34,13 @@ two_bytes [] long = absurd (omega (arith, long))
 two_bytes (first ∷ []) long = absurd (omega (arith, long))
 two_bytes (first ∷ second ∷ []) long = refl
 two_bytes (first ∷ second ∷ third ∷ more) long = absurd (omega (arith, long))
+
+-- the host row of a code of two bytes, where the module doesn't disable it
+pub host_row_is : (m : Module) (code : List ℕ) (found : Option RowShape) → list_any (bytes_eq code) m.disabled.items ≡ false → length code ≡ 2
+    → found ≡ row_with (slice_index code 0 ∷ slice_index code 1 ∷ []) host_rows → found ≡ enabled_row m Host code
+unfolding enabled_row
+host_row_is m code found enabled long is =
+    is ∙ ap (λ (bytes : List ℕ). row_with bytes host_rows) (two_bytes code long) ∙ sym (ap (λ (disabled : Bool). if disabled then None else row_with code host_rows) enabled)
 
 pub unknown_ask : (m : Module) (side : Place) (message : List ℕ) → enabled_row m side (command_of m side message) ≡ None → message_ask m side message ≡ empty_ask
 unfolding message_ask
@@ -42,40 +61,73 @@ pub row_answer_is : (m : Module) (side : Place) (message : List ℕ) (g : Grante
 unfolding message_answer
 row_answer_is m side message g row is = ap (λ (r : Option RowShape). header_of m side message ++ answer_by m side message g r) is
 
--- the command of a host's message whose bytes are cut after the header and after the code
-pub record IsCut (m : Module) (message code text : List ℕ) : Type 0 where
-  pub is_code : code ≡ command_of m Host message
-  pub is_text : text ≡ text_after m Host message
-  pub long : length code ≡ 2
+-- the row of a code that is the message's
+pub row_there : (m : Module) (side : Place) (message code : List ℕ) (row : Option RowShape) → code ≡ command_of m side message → row ≡ enabled_row m side code
+    → enabled_row m side (command_of m side message) ≡ row
+row_there m side message code row is found = ap (enabled_row m side) (sym is) ∙ sym found
 
-pub cut : (m : Module) (message command code text : List ℕ) (at : ℕ) → m.header + 2 ≤ length message → at ≡ m.header
-    → command ≡ drop at message → code ≡ take 2 command → text ≡ drop 2 command → IsCut m message code text
-cut m message command code text at least is here first later =
-    let all : command ≡ drop m.header message = here ∙ ap (λ (n : ℕ). drop n message) is in
-    record {
-      is_code = first ∙ ap (λ (bytes : List ℕ). take 2 bytes) all;
-      is_text = later ∙ ap (λ (bytes : List ℕ). drop 2 bytes) all ∙ drop-drop 2 m.header message;
-      long = omega (arith, ap length first, ap length all, length-drop m.header message, length-take-le 2 command (omega (arith, ap length all, length-drop m.header message)));
-    }
+-- what is true of a row that is found
+pub followed : (IsRow : RowShape → Type 0) → ((row : RowShape) → IsRow row → IsFollowed row) → (found : Option (Bor Row))
+    → IfSome found (λ r. IsRow (shape_of r.now)) → IfSome found (λ r. IsFollowed (shape_of r.now))
+followed IsRow follows None is = tt
+followed IsRow follows (Some r) is = follows (shape_of r.now) is
 
--- the row of a message by its code
-pub code_row : (m : Module) (message code text : List ℕ) (row : Option RowShape) → IsCut m message code text
-    → row ≡ enabled_row m Host (slice_index code 0 ∷ slice_index code 1 ∷ []) → enabled_row m Host (command_of m Host message) ≡ row
-code_row m message code text row c found =
-    ap (enabled_row m Host) (sym c.is_code) ∙ ap (enabled_row m Host) (sym (two_bytes code c.long)) ∙ sym found
+-- a check that opens no key under the LMK
+abbrev is_target : KeyCheck → Bool
+is_target (Target ty k second) = true
+is_target (GivenKey k under ty wraps rule parity) = false
 
--- the plan of a message whose command has no row
-pub unknown_plan : (m : Module) (side : Place) (message : List ℕ) → enabled_row m side (command_of m side message) ≡ None → IsPlanOfMessage m side message Unknown
-unknown_plan m side message none = record { row = sym none; text = λ row found. absurd (cc); own = tt }
+abbrev opens_none : RowShape → Bool
+opens_none row = list_all is_target (rules_of row).keys
 
--- the plan of a message by its row
-pub row_plan : (m : Module) (side : Place) (message text : List ℕ) (row : RowShape) (planned : Planned) → enabled_row m side (command_of m side message) ≡ Some row
-    → text ≡ text_after m side message → planned_row planned ≡ Some row → planned_text planned ≡ text → IsOwnPlan m planned → IsPlanOfMessage m side message planned
-row_plan m side message text row planned found after same read own = record { row = same ∙ sym found; text = λ other is. read ∙ after; own = own }
+abbrev OpensNothing : RowShape → Type 0
+OpensNothing row = (m : Module) (text : List ℕ) → opened_by m row text ≡ []
+
+either_empty : (failed : Bool) (keys : List KeyEntry) → keys ≡ [] → (if failed then [] else keys) ≡ []
+either_empty true keys empty = refl
+either_empty false keys empty = empty
+
+no_entries : (m : Module) (rules : RowRules) (r : ReadText) (checks : List KeyCheck) → list_all is_target checks ≡ true → checks_entries m rules r checks ≡ []
+no_entries m rules r [] all = refl
+no_entries m rules r (Target ty k second ∷ checks) all =
+    either_empty (is_some (key_fault m rules r (Target ty k second))) (checks_entries m rules r checks) (no_entries m rules r checks all)
+no_entries m rules r (GivenKey k under ty wraps rule parity ∷ checks) all = absurd (cc)
+
+nothing_opened : (row : RowShape) → opens_none row ≡ true → OpensNothing row
+unfolding opened_by
+nothing_opened row none = λ m text. go m (reading row text) where
+  go : (m : Module) (read : Result ReadText Code) → read_entries m (rules_of row) read ≡ []
+  go m (Err code) = refl
+  go m (Ok r) = no_entries m (rules_of row) r (rules_of row).keys none
+
+consoles_open_none : list_all opens_none console_rows ≡ true
+unfolding console_rows
+consoles_open_none = refl
+
+-- what a message in a row opens: no console row checks a key
+pub row_opened : (m : Module) (side : Place) (message : List ℕ) (row : RowShape) → enabled_row m side (command_of m side message) ≡ Some row
+    → opened_by m row (text_after m side message) ≡ opened_of m side message
+row_opened m Host message row found = sym (ap (opened_in m message) found)
+row_opened m Console message row found =
+    (enabled_among OpensNothing m Console (command_of m Console message) row (all_by OpensNothing opens_none nothing_opened console_rows consoles_open_none) found) m (text_after m Console message)
+
+-- a message in no row opens none
+pub none_opened : (m : Module) (side : Place) (message : List ℕ) → enabled_row m side (command_of m side message) ≡ None → opened_of m side message ≡ []
+none_opened m Host message none = ap (opened_in m message) none
+none_opened m Console message none = refl
+
+-- the command of a message whose code has no row
+pub no_command : (m : Module) (side : Place) (message : List ℕ) → enabled_row m side (command_of m side message) ≡ None → IsCommandOf m side message None
+no_command m side message none = record { row = sym none; text = tt; own = tt }
+
+-- the command of a message by its row
+pub row_command : (m : Module) (side : Place) (message text : List ℕ) (row : RowShape) (plan : CommandPlan) → enabled_row m side (command_of m side message) ≡ Some row
+    → text ≡ text_after m side message → plan_row plan ≡ row → plan_text plan ≡ text → IsPlanOf m plan → IsCommandOf m side message (Some plan)
+row_command m side message text row plan found after same read own = record { row = ap Some same ∙ sym found; text = read ∙ after; own = own }
 
 -- no console row has an empty word
 word_is_there : (m : Module) (row : RowShape) (code : List ℕ) → enabled_row m Console code ≡ Some row → 1 ≤ length code
-unfolding enabled_row console_rows row_A row_C row_VA row_Q row_LOG row_GC row_FK
+unfolding enabled_row console_rows
 word_is_there m row [] found = absurd (no_row (list_any (bytes_eq []) m.disabled.items) found) where
   no_row : (disabled : Bool) → cond {A = Option RowShape} disabled None None ≡ Some row → ⊥
   no_row true h = cc
@@ -91,10 +143,9 @@ room_is m Host message row least most found =
 room_is m Console message row least most found =
     omega (arith, word_is_there m row (command_of m Console message) found, length-drop (length (command_of m Console message)) message, most)
 
--- the answer by the row of a plan, after the header
-pub planned_answer_is : (m : Module) (side : Place) (message : List ℕ) (g : Granted) (row : RowShape) (text : List ℕ) (planned : Planned)
-    → IsPlanOfMessage m side message planned → planned_row planned ≡ Some row → planned_text planned ≡ text
-    → message_answer m side message g ≡ header_of m side message ++ answer m row text g
-planned_answer_is m side message g row text planned p same read =
-    row_answer_is m side message g row (sym p.row ∙ same)
-    ∙ ap (λ (t : List ℕ). header_of m side message ++ answer m row t g) (sym (p.text row same) ∙ read)
+-- the answer by the row of a command, after the header
+pub command_answer_is : (m : Module) (side : Place) (message : List ℕ) (g : Granted) (plan : CommandPlan) → IsCommandOf m side message (Some plan)
+    → message_answer m side message g ≡ header_of m side message ++ answer m (plan_row plan) (plan_text plan) g
+command_answer_is m side message g plan c =
+    row_answer_is m side message g (plan_row plan) (sym c.row)
+    ∙ ap (λ (t : List ℕ). header_of m side message ++ answer m (plan_row plan) t g) (sym c.text)

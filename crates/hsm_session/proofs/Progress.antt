@@ -9,14 +9,13 @@ use Rattle.hsm_io.proofs.TextLemmas.{appends_then_front, appends_twice, front_of
 use Rattle.hsm_frame.specs.Laws.{HasReading}
 use Rattle.hsm_auth.specs.declared.entry.Entry.{Entry}
 use Rattle.hsm_auth.specs.declared.ledger.Ledger.{Ledger}
-use Rattle.hsm_auth.specs.History.{IsLegal, StandsFor}
+use Rattle.hsm_auth.specs.History.{IsLegal, StandsFor, IsKnown}
 use Rattle.hsm_rows.specs.declared.settings.Module.{Module}
 use Rattle.hsm_session.specs.declared.lane.ScriptLane.{ScriptLane}
 use Rattle.hsm_session.specs.declared.run.Run.{Run}
 use Rattle.hsm_session.specs.declared.script.ScriptEnd.{ScriptEnd}
-use Rattle.hsm_session.specs.Plans.{least_length}
+use Rattle.hsm_answers.specs.Messages.{least_length}
 use Rattle.hsm_session.specs.Scripts.{Said}
-use Rattle.hsm_auth.specs.History.{IsKnown}
 use Rattle.hsm_session.specs.Runs.{AreEnds, IsRunOfLines, IsFinishedRun, IsStoppedRun, end_lines, got, is_cut, is_short, last_line}
 use Rattle.hsm_session.specs.Lanes.{BringBytes, Ends, IsAt, StopsLine, TakesLine, lane_end, run_end}
 use Rattle.hsm_session.proofs.Existence.{ends_exist, first_bring, prints_exist}

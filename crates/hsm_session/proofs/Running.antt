@@ -12,7 +12,7 @@ use Rattle.hsm_auth.specs.declared.activity.Place.TheVariants as place
 use Rattle.hsm_rows.specs.declared.settings.Module.{Module}
 use Rattle.hsm_session.specs.declared.lane.ScriptLane.{ScriptLane}
 use Rattle.hsm_session.specs.declared.run.Run.{Run}
-use Rattle.hsm_session.specs.Plans.{least_length}
+use Rattle.hsm_answers.specs.Messages.{least_length}
 use Rattle.hsm_session.specs.Scripts.{Said, Nothing, Moment, Piece, Console}
 use Rattle.hsm_session.specs.Booking.{IsBooked, BooksFront, console_line, entries_of, entry_of, reply_of}
 use Rattle.hsm_session.specs.Runs.{brought, got, moment_after, moment_at, piece_text}

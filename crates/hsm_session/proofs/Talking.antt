@@ -8,14 +8,13 @@ use Rattle.std.proofs.lemmas.List.Elements.{All-append}
 use Rattle.hsm_auth.specs.declared.entry.Ask.{Ask}
 use Rattle.hsm_auth.specs.declared.entry.Granted.{Granted}
 use Rattle.hsm_auth.specs.declared.entry.Entry.{Entry}
-use Rattle.hsm_answers.specs.Messages.{message_answer, message_ask}
+use Rattle.hsm_answers.specs.Messages.{message_answer, message_ask, least_for}
 use Rattle.hsm_desk.specs.Passes.{Books, OwnBooked, Sound}
 use Rattle.hsm_frame.specs.Calls.{IsNotYet}
 use Rattle.hsm_frame.specs.Frames.{Frames, IsMessage, IsShort, IsTail, StreamEnd, Whole, Part, frame}
 use Rattle.hsm_frame.specs.Frames as stream
 use Rattle.hsm_frame.specs.Laws.{HasReading}
 use Rattle.hsm_io.specs.Connections.{Traffic, Exchanges, IsSilent}
-use Rattle.hsm_io.specs.Gates as gates
 use Rattle.hsm_io.specs.Moments.{tick, after_now}
 use Rattle.hsm_answers.specs.Kept.{opened_of}
 use Rattle.hsm_lmk.specs.Cache.{kept_all}
@@ -25,12 +24,11 @@ use Rattle.hsm_auth.specs.declared.activity.Place.{Place}
 use Rattle.hsm_session.specs.declared.serving.ConnEnd.{ConnEnd}
 use Rattle.hsm_session.specs.declared.serving.ConnEnd.TheVariants.{Clean, Cut, Short, ReadFault, WriteFault}
 use Rattle.hsm_session.specs.declared.serving.Count.{Count}
-use Rattle.hsm_session.specs.Connections.{Hears, IsEntryFor, Leaves, WritesAnswers, Scene, framed_answers, scene}
+use Rattle.hsm_session.specs.Connections.{AskGate, Hears, IsEntryFor, Leaves, WritesAnswers, Scene, framed_answers, scene}
 use Rattle.hsm_session.specs.Lanes.{AreBytes, IsWaiting}
-use Rattle.hsm_session.specs.Plans.{least_for}
 use Rattle.hsm_session.specs.Serving.{IsServing, Holding, EndsServing, Sends, SendsFront, Steps, holding, no_entry, one_more}
 use Rattle.hsm_session.proofs.Answering.{each_more}
-use Rattle.hsm_session.proofs.Gating.{gate_more, gate_none}
+use Rattle.hsm_session.proofs.Gating.{gate_none}
 use Rattle.hsm_session.proofs.Keeping.{keeps_more, keeps_none}
 use Rattle.hsm_session.proofs.Makings.{WordsAuthorise, booked_entry, clock_more, clock_none, counts_more, counts_none, hosts_more, hosts_none, makes_more, makes_none, zip_push}
 use Rattle.hsm_session.proofs.Streams.{bytes_right, frames_after}
@@ -145,19 +143,17 @@ waits_at_start least held none = record {
   room = omega (arith, ap length none);
 }
 
--- a message is booked, and its answer is gathered
-pub going_books : (m : Module) (kind : Place) (lane : ℕ) (start old new : Scene) (between : Option (List gates.GateCall))
-    (message rest out reply : List ℕ) (count : Count) (ask : Ask) (granted : Granted) (place : ℕ) → WordsAuthorise
+-- a message is booked, and its answer is gathered; of a gate that told nothing at the start nothing is said
+pub going_books : (m : Module) (kind : Place) (lane : ℕ) (start old new : Scene)
+    (message rest out reply : List ℕ) (count : Count) (ask : Ask) (granted : Granted) (place : ℕ) → WordsAuthorise → start.calls ≡ None
     → IsMessage (least_for m kind) message → ask ≡ message_ask m kind message → reply ≡ message_answer m kind message granted
     → Books old.pass new.pass new.last ask granted place → OwnBooked old.pass new.pass new.last ask granted place → Sound new.pass
     → ((c : List ℕ) → old.moments ≡ Some c → (new.last ≡ tick c 0) × (new.moments ≡ Some (after_now c)))
-    → ((c : List gates.GateCall) → old.calls ≡ Some c → between ≡ Some (c ++ gates.before lane count.messages ∷ []))
-    → ((c : List gates.GateCall) → between ≡ Some c → new.calls ≡ Some (c ++ gates.after lane count.messages ∷ []))
     → new.traffic ≡ old.traffic
     → capacity_of new.cache ≡ capacity_of old.cache → kept_in new.cache ≡ kept_all (capacity_of old.cache) (kept_in old.cache) (opened_of m kind message)
     → IsServing m kind lane start old (holding (frame message ++ rest) out count)
     → IsServing m kind lane start new (holding rest (out ++ frame reply) (one_more count place))
-going_books m kind lane start old new between message rest out reply count ask granted place words valid asked answered books own sound ticks first second same room keeps g =
+going_books m kind lane start old new message rest out reply count ask granted place words untold valid asked answered books own sound ticks same room keeps g =
     let placed : ℕ × Entry = booked_entry old.pass new.last ask granted place in
     record {
       messages = g.messages ++ message ∷ [];
@@ -167,7 +163,7 @@ going_books m kind lane start old new between message rest out reply count ask g
       valid = each_more (least_for m kind) g.messages message g.valid valid;
       bytes = bytes_right (frame message) rest g.bytes;
       clock = clock_more start.last old.last new.last start.moments old.moments new.moments g.entries placed g.clock refl ticks;
-      gate = gate_more lane count.messages start.calls old.calls between new.calls g.entries placed g.gate g.counted.messages first second;
+      gate = λ calls is. absurd (cc (untold, is));
       counted = counts_more count g.entries placed g.counted;
       keeps = keeps_more m kind start.cache old.cache new.cache g.messages message g.keeps room keeps;
       hosts = hosts_more m kind message g.entries placed words asked g.hosts;
@@ -179,6 +175,45 @@ going_books m kind lane start old new between message rest out reply count ask g
           ∙ append_assoc t.2 out (frame reply) in
           (t.0, same ∙ t.1, t.2, subst (λ (heard : List ℕ). Exchanges s t.0 heard t.2) (frames_push g.messages message rest) t.3, texts);
     }
+
+-- the scene with a gate that tells nothing
+abbrev pub without_gate : Scene → Scene
+without_gate s = scene s.pass s.last s.moments None s.traffic s.cache
+
+-- what was done so far, with a gate that tells nothing
+pub going_untold : (m : Module) (kind : Place) (lane : ℕ) (start now : Scene) (h : Holding) → IsServing m kind lane start now h → IsServing m kind lane (without_gate start) (without_gate now) h
+going_untold m kind lane start now h g = record {
+  messages = g.messages;
+  entries = g.entries;
+  made = g.made;
+  each = g.each;
+  valid = g.valid;
+  bytes = g.bytes;
+  clock = g.clock;
+  gate = λ calls is. absurd (cc (is));
+  counted = g.counted;
+  keeps = g.keeps;
+  hosts = g.hosts;
+  told = g.told;
+}
+
+-- the same, with the gate's calls
+pub going_told : (m : Module) (kind : Place) (lane : ℕ) (start now : Scene) (h : Holding) (g : IsServing m kind lane (without_gate start) (without_gate now) h)
+    → AskGate lane start.calls now.calls g.entries → IsServing m kind lane start now h
+going_told m kind lane start now h g gate = record {
+  messages = g.messages;
+  entries = g.entries;
+  made = g.made;
+  each = g.each;
+  valid = g.valid;
+  bytes = g.bytes;
+  clock = g.clock;
+  gate = gate;
+  counted = g.counted;
+  keeps = g.keeps;
+  hosts = g.hosts;
+  told = g.told;
+}
 
 -- the scene at which this has passed over the link
 abbrev pub at_traffic : Scene → Option Traffic → Scene

@@ -10,7 +10,7 @@ use Rattle.hsm_answers.specs.Clear.{Authorises, IsGrantedAt}
 use Rattle.hsm_auth.specs.declared.activity.Place.{Place}
 use Rattle.hsm_auth.specs.declared.activity.Place.TheVariants as place
 use Rattle.hsm_session.specs.Booking.{entry_of}
-use Rattle.hsm_session.specs.Plans.{least_length}
+use Rattle.hsm_answers.specs.Messages.{least_length}
 use Rattle.hsm_session.specs.Runs.{got, moment_at}
 use Rattle.hsm_session.specs.Scripts.{Said, Nothing, Moment, Piece, Console}
 

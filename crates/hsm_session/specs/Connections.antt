@@ -1,16 +1,16 @@
 -- One connection: the messages that came over it, the entries that a pass made for them, and what was written.
-use Rattle.std.specs.Prelude.{◌≡◌, ◌⊎◌, ℕ, Bool, true, false, List, [], ◌∷◌, ◌++◌, length, flat_map, slice_get, Option, Some, None}
+use Rattle.std.specs.Prelude.{◌≡◌, ◌⊎◌, ◌≤◌, ℕ, Bool, true, false, List, [], ◌∷◌, ◌++◌, All, length, flat_map, slice_get, sum, Option, Some, None}
 use Rattle.std.specs.List.{AllZip}
 use Rattle.hsm_auth.specs.declared.entry.Ask.{Ask}
 use Rattle.hsm_auth.specs.declared.entry.Ask.TheVariants.{Use, Authorise, Cancel, CancelAll, Look, Recent}
 use Rattle.hsm_auth.specs.declared.entry.Entry.{Entry}
 use Rattle.hsm_answers.specs.Kept.{opened_of}
-use Rattle.hsm_answers.specs.Messages.{message_ask, message_answer}
+use Rattle.hsm_answers.specs.Messages.{message_ask, message_answer, least_for}
 use Rattle.hsm_desk.specs.Passes.{PassView, Makes}
 use Rattle.hsm_frame.specs.Frames.{Frames, frame, StreamEnd, Whole, Part}
 use Rattle.hsm_frame.specs.Frames as stream
 use Rattle.hsm_io.specs.Connections.{Traffic}
-use Rattle.hsm_io.specs.Gates.{GateCall, gate_calls}
+use Rattle.hsm_io.specs.Gates.{GateCall, batch_calls}
 use Rattle.hsm_io.specs.Moments.{tick, after_calls}
 use Rattle.hsm_io.specs.Outside.{Rose}
 use Rattle.hsm_lmk.specs.Cache.{Kept, kept_all}
@@ -22,7 +22,7 @@ use Rattle.hsm_auth.specs.declared.activity.Place.TheVariants.{Host}
 use Rattle.hsm_session.specs.declared.serving.ConnEnd.{ConnEnd}
 use Rattle.hsm_session.specs.declared.serving.ConnEnd.TheVariants.{Clean, Cut, Short, ReadFault, WriteFault}
 use Rattle.hsm_session.specs.declared.serving.Report.{Report}
-use Rattle.hsm_session.specs.Plans.{least_for}
+use Rattle.hsm_session.specs.declared.serving.Tools.{Tools}
 
 -- What a lane and its connection show at one time: the pass, the moment that the clock gave last, where told the moments to
 -- come, the calls that the gate got and what passed over the link, and the opened keys that are kept.
@@ -36,6 +36,10 @@ pub record Scene : Type 0 where
 
 abbrev pub scene : PassView → ℕ → Option (List ℕ) → Option (List GateCall) → Option Traffic → KeyCache → Scene
 scene pass last moments calls traffic cache = record { pass = pass; last = last; moments = moments; calls = calls; traffic = traffic; cache = cache }
+
+-- what a lane with these tools and its connection show, by what its clock and its gate tell
+abbrev pub scene_of : {C G : Type 0} → (C → ℕ) → (C → Option (List ℕ)) → (G → Option (List GateCall)) → Tools C G → Option Traffic → Scene
+scene_of last to_come calls tools traffic = scene tools.pass (last tools.clock) (to_come tools.clock) (calls tools.gate) traffic tools.cache
 
 -- the entry is that of the message: it has its ask
 abbrev pub IsEntryFor : Module → Place → List ℕ → ℕ × Entry → Type 0
@@ -75,10 +79,19 @@ pub record AskClock (last_before last_after : ℕ) (before after : Option (List 
   pub last : last_after ≡ last_moment last_before entries
   pub told : (moments : List ℕ) → before ≡ Some moments → HaveMoments moments entries × (after ≡ Some (after_calls (length entries) moments))
 
--- Where told, the gate was called before and after each of the entries, in their order, with the number of the lane, and
--- with that of the entry, counted from 0; and nothing else called it.
+-- The calls of a gate for so many messages of a lane, counted from 0: just one before each message and just one after it. The
+-- messages were taken in batches of these sizes, at least 1 and at most 16: first the calls before those of a batch, in their
+-- order, then the calls after them, in their order, and then those of the next batch.
+pub record AreCallsFor (lane count : ℕ) (calls : List GateCall) : Type 0 where
+  pub sizes : List ℕ
+  pub within : All (λ size. (1 ≤ size) × (size ≤ 16)) sizes
+  pub total : sum sizes ≡ count
+  pub ordered : calls ≡ batch_calls lane 0 sizes
+
+-- Where told, the gate got just the calls for as many messages as these entries.
 abbrev pub AskGate : ℕ → Option (List GateCall) → Option (List GateCall) → List (ℕ × Entry) → Type 0
-AskGate lane before after entries = (calls : List GateCall) → before ≡ Some calls → after ≡ Some (calls ++ gate_calls lane 0 (length entries))
+AskGate lane before after entries = (calls : List GateCall) → before ≡ Some calls →
+    (more : List GateCall) × AreCallsFor lane (length entries) more × (after ≡ Some (calls ++ more))
 
 -- The bytes read are the messages framed, and end as the connection did. After a failed read they may end within a frame,
 -- and after a failed write more messages may follow.
@@ -139,8 +152,8 @@ pub record Keeps (m : Module) (kind : Place) (before after : KeyCache) (messages
   pub kept : kept_in after ≡ kept_after m kind (capacity_of before) (kept_in before) messages
 
 -- What serving a connection of the lane of this number did. The pass made one entry for each message, in their order, at the
--- clock's moments, and the gate was called around each; where the link tells what passed over it, these are the messages of
--- the bytes read, and what was written are their answers at these entries. A host's messages authorise nothing.
+-- clock's moments, and the gate was called before and after each; where the link tells what passed over it, these are the
+-- messages of the bytes read, and what was written are their answers at these entries. A host's messages authorise nothing.
 pub record Serves (m : Module) (kind : Place) (lane : ℕ) (before after : Scene) (report : Report) : Type 0 where
   pub messages : List (List ℕ)
   pub entries : List (ℕ × Entry)

@@ -2,7 +2,7 @@
 use Rattle.std.specs.Prelude.{◌≡◌, ℕ, List, false}
 use Rattle.hsm_frame.specs.Frames.{Frames, StreamEnd}
 use Rattle.hsm_rows.specs.declared.settings.Module.{Module}
-use Rattle.hsm_session.specs.Plans.{least_length}
+use Rattle.hsm_answers.specs.Messages.{least_length}
 use Rattle.hsm_session.specs.Runs.{got, is_short}
 use Rattle.hsm_session.specs.Scripts.{Said}
 

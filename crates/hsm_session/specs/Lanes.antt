@@ -7,23 +7,16 @@ use Rattle.hsm_auth.specs.declared.entry.Entry.{Entry}
 use Rattle.hsm_auth.specs.declared.ledger.Ledger.{Ledger}
 use Rattle.hsm_auth.specs.History.{StandsFor}
 use Rattle.hsm_io.specs.Texts.{Appends}
-use Rattle.hsm_lmk.specs.Cache.{Agrees}
-use Rattle.hsm_lmk.specs.Caches.{kept_in}
-use Rattle.hsm_lmk.specs.declared.kept.KeyCache.{KeyCache}
 use Rattle.hsm_rows.specs.declared.settings.Module.{Module}
 use Rattle.hsm_session.specs.declared.lane.Drained.{Drained}
 use Rattle.hsm_session.specs.declared.lane.ScriptLane.{ScriptLane}
 use Rattle.hsm_session.specs.declared.run.Run.{Run}
-use Rattle.hsm_session.specs.Plans.{least_length}
+use Rattle.hsm_answers.specs.Messages.{least_length}
 use Rattle.hsm_session.specs.Scripts.{Said, Nothing, Moment, Piece}
 use Rattle.hsm_session.specs.Scripts as said
 use Rattle.hsm_session.specs.Booking.{IsBooked, BooksAll, BooksFront, BooksSome, entries_of}
 use Rattle.hsm_session.specs.declared.script.ScriptEnd.{ScriptEnd}
 use Rattle.hsm_session.specs.Runs.{IsRunOfLine, end_lines, got, is_cut, is_short, last_line, moment_at, piece_text}
-
--- each key that the cache keeps is the one that its text opens to under the module's LMK
-abbrev pub IsCacheOf : Module → KeyCache → Type 0
-IsCacheOf m cache = Agrees m.lmk (kept_in cache).entries
 
 -- how a stream ends, of which these bytes are held, or which a short frame closed
 abbrev pub stream_end : Option ℕ → List ℕ → StreamEnd

@@ -11,7 +11,7 @@ use Rattle.hsm_rows.specs.declared.settings.Module.{Module}
 use Rattle.hsm_session.specs.declared.script.ScriptEnd.{ScriptEnd}
 use Rattle.hsm_session.specs.declared.script.ScriptFault.{ScriptFault}
 use Rattle.hsm_session.specs.declared.script.ScriptFault.TheVariants.{Line, Memory, Out}
-use Rattle.hsm_session.specs.Plans.{least_length}
+use Rattle.hsm_answers.specs.Messages.{least_length}
 use Rattle.hsm_session.specs.Scripts.{Said, Nothing, Moment, Piece, Console}
 use Rattle.hsm_session.specs.Booking.{answer_lines, console_line, entries_of, entry_of, lane_words, reply_of}
 

@@ -14,7 +14,7 @@ use Rattle.hsm_session.specs.declared.serving.Count.{Count}
 use Rattle.hsm_session.specs.declared.serving.Report.{Report}
 use Rattle.hsm_session.specs.Connections.{AskClock, AskGate, AuthoriseNothing, EndCause, IsEntryFor, Keeps, Scene, Serves, first_place, framed_answers, last_place}
 use Rattle.hsm_session.specs.Lanes.{AreBytes, IsWaiting}
-use Rattle.hsm_session.specs.Plans.{least_for}
+use Rattle.hsm_answers.specs.Messages.{least_for}
 
 -- A part from the front of the text was written, and this is the rest.
 abbrev pub Sends : Option Traffic → Option Traffic → List ℕ → List ℕ → Type 0

@@ -1,26 +1,22 @@
-//! Messages of one connection that are prepared one after another, booked in one turn at the desk, and answered.
+//! Messages of one connection that are prepared one after another, booked by one call of the desk, and answered.
 
-ghost use Rattle.std.specs.Prelude.{◌≡◌, ◌+◌, ◌<◌, ◌≤◌, ◌∷◌, ◌++◌, List, ℕ, [], length, drop, Option, Some, IfOk, OnOk, OnErr, false};
+ghost use Rattle.std.specs.Prelude.{◌≡◌, ◌+◌, ◌^◌, ◌<◌, ◌≤◌, ◌∷◌, ◌++◌, List, [], length, drop, map, Some, OnOk, OnErr, false};
 ghost use Rattle.arrayvec.specs.ArrayVec.{array_vec_len};
-ghost use Rattle.hsm_io.specs.Connections.{Traffic};
+ghost use Rattle.hsm_io.specs.Gates.{GateCall, calls_after, calls_before};
 ghost use Rattle.hsm_io.specs.Outside.{Rose};
-ghost use Rattle.hsm_auth.specs.declared.activity.Place.{Place};
-ghost use Rattle.hsm_lmk.specs.declared.kept.KeyCache.{KeyCache};
-ghost use Rattle.hsm_rows.specs.declared.settings.Module.{Module};
-ghost use Rattle.hsm_session.specs.Batches.{AreBookedFor, ArePlansOf, MayAsk, Prepares, StandsBehind, answers_of, frames_of};
-ghost use Rattle.hsm_session.specs.Connections.{Scene, scene};
-ghost use Rattle.hsm_session.specs.Lanes.{IsCacheOf};
-ghost use Rattle.hsm_session.specs.Plans.{least_for};
-ghost use Rattle.hsm_session.specs.Serving.{IsServing, Sends, SendsFront, Steps, holding};
-ghost use Rattle.hsm_session.specs.declared.serving.ConnEnd.TheVariants.{WriteFault};
+ghost use Rattle.hsm_session.specs.Batches.{AnswersFront, AreBookedFor, ArePlansOf, CanAnswer, Prepares, StandsBehind, answers_of, counted_all, frames_of, stand_of};
+ghost use Rattle.hsm_answers.specs.Kept.{IsCacheOf};
+ghost use Rattle.hsm_session.specs.Plans.{plan_ask};
+ghost use Rattle.hsm_answers.specs.Messages.{least_for};
+ghost use Rattle.hsm_session.specs.Serving.{Sends, SendsFront};
 
 use crate::plans::{Plan, finish_cached, prepare_cached};
 use crate::replies::{LinkFailed, gather};
 use crate::serving::{Count, Tools};
 use arrayvec::ArrayVec;
 use hsm_answers::words_authorise;
-use hsm_auth::Place;
-use hsm_desk::{Booked, Desk, Pass, Queue};
+use hsm_auth::{Ask, Place};
+use hsm_desk::{Booked, Desk};
 use hsm_frame::laws::has_one_reading;
 use hsm_frame::{Frames, Next};
 use hsm_io::{Clock, Gate, Link};
@@ -29,7 +25,7 @@ use hsm_rows::Module;
 use hsm_text::Reply;
 use std::sync::Wait;
 
-/// How many messages of a connection are booked in one turn at most.
+/// How many messages of a connection are booked together at most.
 pub const BATCH: usize = 16;
 
 // What stands behind the messages that were prepared.
@@ -107,44 +103,44 @@ fn prepare_held<'m, const N: usize>(
     }
 }
 
-// Books the asks of plans, one after another, and puts what was booked in the places of `booked`.
-fn book_plans<R: Wait, C: Clock, G: Gate>(
-    rt: &R,
-    desk: &Desk,
-    queue: &Queue<'_>,
-    pass: &mut Pass,
-    clock: &mut C,
-    gate: &mut G,
-    lane: u32,
-    plans: &[Plan<'_>],
-    booked: &mut [Booked],
-    count: &mut Count,
-)
-    requires desk { pass.old.desk ≡ desk.now }
-    requires places { length plans.now ≤ length booked.old }
-    requires may { MayAsk plans.now }
-    requires counted { count.old.messages ≤ length pass.old.seen }
-    ensures desk { pass.new.desk ≡ pass.old.desk }
-    ensures counted { count.new.messages ≤ length pass.new.seen }
-    ensures fit { AreBookedFor plans.now booked.new }
-    ensures booked { (m : Module) (kind : Place) (start : Scene) (traffic : Option Traffic) (before after : KeyCache) (rest out : List ℕ)
-        → Prepares m kind before plans.now after
-        → IsServing m kind lane start (scene pass.old (C.last clock.old) (C.to_come clock.old) (G.calls gate.old) traffic before)
-        (holding (frames_of plans.now ++ rest) out count.old)
-        → IsServing m kind lane start (scene pass.new (C.last clock.new) (C.to_come clock.new) (G.calls gate.new) traffic after)
-        (holding rest (out ++ answers_of m plans.now booked.new) count.new) }
+// Puts the asks of plans in their places, in their order.
+fn put_asks(plans: &[Plan<'_>], asks: &mut [Ask])
+    requires { length asks.old ≡ length plans.now }
+    ensures { asks.new ≡ map plan_ask plans.now }
 {
-    words_authorise();
-    let [plan, more @ ..] = plans else {
-        return;
-    };
-    let (here, rest) = booked.split_at_mut(1);
-    let first = &mut here[0];
-    gate.before_book(lane, count.messages);
-    desk.book_into(rt, queue, pass, clock, &plan.ask(), first);
-    gate.after_book(lane, count.messages);
-    count.add(first.place);
-    book_plans(rt, desk, queue, pass, clock, gate, lane, more, rest, count);
+    'plans: for (at, plan) in plans.iter().enumerate() {
+        asks[at] = plan.ask();
+    }
+}
+
+// Tells the gate of so many messages from this one on that they are to be booked.
+fn call_before<G: Gate>(gate: &mut G, lane: u32, first: u64, count: usize)
+    requires { first + count ≤ 2 ^ 63 }
+    ensures { (c : List GateCall) → G.calls gate.old ≡ Some c → G.calls gate.new ≡ Some (c ++ calls_before lane first count) }
+{
+    'messages: for message in first..first + count as u64 {
+        gate.before_book(lane, message);
+    }
+}
+
+// Tells the gate of so many messages from this one on that they were booked.
+fn call_after<G: Gate>(gate: &mut G, lane: u32, first: u64, count: usize)
+    requires { first + count ≤ 2 ^ 63 }
+    ensures { (c : List GateCall) → G.calls gate.old ≡ Some c → G.calls gate.new ≡ Some (c ++ calls_after lane first count) }
+{
+    'messages: for message in first..first + count as u64 {
+        gate.after_book(lane, message);
+    }
+}
+
+// Counts one more entry for each that was booked.
+fn count_all(count: &mut Count, booked: &[Booked])
+    requires { count.old.messages + length booked.now ≤ 2 ^ 63 }
+    ensures { count.new ≡ counted_all count.old booked.now }
+{
+    'entries: for entry in booked {
+        count.add(entry.place);
+    }
 }
 
 // Finishes the answers of plans for which these were booked, and gathers them.
@@ -175,7 +171,8 @@ fn answer_plans<K: Link>(
     answer_plans(module, cache, more, rest, reply, out, link)
 }
 
-// Books and answers the whole messages that the frames begin with, at most N of them, and gathers their replies.
+// Books and answers the whole messages that the frames begin with, at most N of them, and gathers their replies. The gate is called
+// before and after the one call of the desk that books them, so a gate that holds the lane holds up no other one.
 fn answer_batch<R: Wait, K: Link, C: Clock, G: Gate, const N: usize>(
     rt: &R,
     module: &Module,
@@ -187,63 +184,37 @@ fn answer_batch<R: Wait, K: Link, C: Clock, G: Gate, const N: usize>(
 ) -> Result<Behind, LinkFailed>
     requires some { 0 < N }
     requires few { N ≤ 16 }
-    requires agrees { IsCacheOf «module».now tools.old.cache }
     requires desk { tools.old.pass.desk ≡ desk.now }
-    requires least { tools.old.frames.least ≡ least_for «module».now kind }
-    requires counted { count.old.messages ≤ length tools.old.pass.seen }
-    ensures agrees { IsCacheOf «module».now tools.new.cache }
-    ensures desk { tools.new.pass.desk ≡ tools.old.pass.desk }
-    ensures counted { count.new.messages ≤ length tools.new.pass.seen }
-    ensures going { OnOk result ((start : Scene)
-        → IsServing «module».now kind tools.old.lane start
-        (scene tools.old.pass (C.last tools.old.clock) (C.to_come tools.old.clock) (G.calls tools.old.gate) (K.traffic link.old) tools.old.cache)
-        (holding tools.old.frames.bytes tools.old.out.items count.old)
-        → IsServing «module».now kind tools.old.lane start
-        (scene tools.new.pass (C.last tools.new.clock) (C.to_come tools.new.clock) (G.calls tools.new.gate) (K.traffic link.new) tools.new.cache)
-        (holding tools.new.frames.bytes tools.new.out.items count.new)) }
-    ensures behind { IfOk result (λ behind. StandsBehind tools.new.frames.least tools.old.frames.bytes tools.new.frames.bytes behind) }
-    ensures kept { OnOk result (K.faults link.new ≡ K.faults link.old) }
-    ensures ends { OnErr result (Steps «module».now kind tools.old.lane
-        (scene tools.old.pass (C.last tools.old.clock) (C.to_come tools.old.clock) (G.calls tools.old.gate) (K.traffic link.old) tools.old.cache)
-        (scene tools.new.pass (C.last tools.new.clock) (C.to_come tools.new.clock) (G.calls tools.new.gate) (K.traffic link.new) tools.new.cache)
-        (holding tools.old.frames.bytes tools.old.out.items count.old)
-        (holding tools.new.frames.bytes tools.new.out.items count.new) (Some WriteFault)) }
-    ensures failed { OnErr result (Rose (K.faults link.old) (K.faults link.new) × (K.last_was_read link.new ≡ false)) }
-    ensures lane { tools.new.lane ≡ tools.old.lane }
-    ensures frames { tools.new.frames.least ≡ tools.old.frames.least }
+    requires can { CanAnswer «module».now kind (stand_of C.last C.to_come G.calls K.traffic K.faults K.last_was_read tools.old link.old count.old) }
+    ensures answers { AnswersFront «module».now kind
+        (stand_of C.last C.to_come G.calls K.traffic K.faults K.last_was_read tools.old link.old count.old)
+        (stand_of C.last C.to_come G.calls K.traffic K.faults K.last_was_read tools.new link.new count.new) result }
 {
     has_one_reading();
+    words_authorise();
+    tools.pass.facts();
     let lane = tools.lane;
-    let mut plans = ArrayVec::<Plan<'_>, N>::new();
-    let taken = prepare_held(module, &mut tools.cache, kind, &tools.frames, &mut plans);
-    let queue = if plans.is_empty() || tools.gate.may_hold() {
-        Queue::none()
-    } else {
-        desk.queue_up(rt)
-    };
-    book_plans(
-        rt,
-        desk,
-        &queue,
-        &mut tools.pass,
-        &mut tools.clock,
-        &mut tools.gate,
-        lane,
-        &plans,
-        &mut tools.booked,
-        count,
-    );
-    drop(queue);
+    let mut room = ArrayVec::<Plan<'_>, N>::new();
+    let taken = prepare_held(module, &mut tools.cache, kind, &tools.frames, &mut room);
+    let plans = room.as_slice();
+    let mut asks = [Ask::Look; N];
+    let asks = &mut asks[..plans.len()];
+    put_asks(plans, asks);
+    let booked = &mut tools.booked[..plans.len()];
+    call_before(&mut tools.gate, lane, count.messages, plans.len());
+    desk.book_all(rt, &mut tools.pass, &mut tools.clock, asks, booked);
+    call_after(&mut tools.gate, lane, count.messages, plans.len());
+    count_all(count, booked);
     answer_plans(
         module,
         &tools.cache,
-        &plans,
-        &tools.booked,
+        plans,
+        booked,
         &mut tools.reply,
         &mut tools.out,
         link,
     )?;
-    drop(plans);
+    drop(room);
     tools.frames.skip(taken.bytes);
     Ok(taken.behind)
 }
@@ -259,8 +230,8 @@ fn has_second(frames: &Frames) -> bool {
     }
 }
 
-/// Books and answers the whole messages that the frames begin with, as many as are booked in one turn, and gathers their
-/// replies. It says what stands behind them. Room for plans is made for as many as that may be: it takes time to make.
+/// Books and answers the whole messages that the frames begin with, as many as are booked together, and gathers their replies. It
+/// says what stands behind them. Room for plans is made for as many as that may be: it takes time to make.
 pub(crate) fn answer_front<R: Wait, K: Link, C: Clock, G: Gate>(
     rt: &R,
     module: &Module,
@@ -270,30 +241,11 @@ pub(crate) fn answer_front<R: Wait, K: Link, C: Clock, G: Gate>(
     link: &mut K,
     count: &mut Count,
 ) -> Result<Behind, LinkFailed>
-    requires agrees { IsCacheOf «module».now tools.old.cache }
     requires desk { tools.old.pass.desk ≡ desk.now }
-    requires least { tools.old.frames.least ≡ least_for «module».now kind }
-    requires counted { count.old.messages ≤ length tools.old.pass.seen }
-    ensures agrees { IsCacheOf «module».now tools.new.cache }
-    ensures desk { tools.new.pass.desk ≡ tools.old.pass.desk }
-    ensures counted { count.new.messages ≤ length tools.new.pass.seen }
-    ensures going { OnOk result ((start : Scene)
-        → IsServing «module».now kind tools.old.lane start
-        (scene tools.old.pass (C.last tools.old.clock) (C.to_come tools.old.clock) (G.calls tools.old.gate) (K.traffic link.old) tools.old.cache)
-        (holding tools.old.frames.bytes tools.old.out.items count.old)
-        → IsServing «module».now kind tools.old.lane start
-        (scene tools.new.pass (C.last tools.new.clock) (C.to_come tools.new.clock) (G.calls tools.new.gate) (K.traffic link.new) tools.new.cache)
-        (holding tools.new.frames.bytes tools.new.out.items count.new)) }
-    ensures behind { IfOk result (λ behind. StandsBehind tools.new.frames.least tools.old.frames.bytes tools.new.frames.bytes behind) }
-    ensures kept { OnOk result (K.faults link.new ≡ K.faults link.old) }
-    ensures ends { OnErr result (Steps «module».now kind tools.old.lane
-        (scene tools.old.pass (C.last tools.old.clock) (C.to_come tools.old.clock) (G.calls tools.old.gate) (K.traffic link.old) tools.old.cache)
-        (scene tools.new.pass (C.last tools.new.clock) (C.to_come tools.new.clock) (G.calls tools.new.gate) (K.traffic link.new) tools.new.cache)
-        (holding tools.old.frames.bytes tools.old.out.items count.old)
-        (holding tools.new.frames.bytes tools.new.out.items count.new) (Some WriteFault)) }
-    ensures failed { OnErr result (Rose (K.faults link.old) (K.faults link.new) × (K.last_was_read link.new ≡ false)) }
-    ensures lane { tools.new.lane ≡ tools.old.lane }
-    ensures frames { tools.new.frames.least ≡ tools.old.frames.least }
+    requires can { CanAnswer «module».now kind (stand_of C.last C.to_come G.calls K.traffic K.faults K.last_was_read tools.old link.old count.old) }
+    ensures answers { AnswersFront «module».now kind
+        (stand_of C.last C.to_come G.calls K.traffic K.faults K.last_was_read tools.old link.old count.old)
+        (stand_of C.last C.to_come G.calls K.traffic K.faults K.last_was_read tools.new link.new count.new) result }
 {
     if has_second(&tools.frames) {
         answer_batch::<R, K, C, G, BATCH>(rt, module, desk, kind, tools, link, count)

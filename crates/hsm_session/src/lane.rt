@@ -3,15 +3,15 @@
 ghost use Rattle.std.specs.Prelude.{◌≡◌, ◌+◌, ◌<◌, ◌≤◌, ◌^◌, ◌∷◌, ◌++◌, ℕ, List, [], length, OnOk, OnErr, IfOk, None, codes};
 ghost use Rattle.arrayvec.specs.ArrayVec.{array_vec_len};
 ghost use Rattle.hsm_auth.specs.declared.entry.Entry.{Entry};
-ghost use Rattle.hsm_auth.specs.History.{StandsFor};
+ghost use Rattle.hsm_auth.specs.History.{StandsFor, IsKnown};
 ghost use Rattle.hsm_auth.specs.declared.activity.Place.TheVariants.{Console};
 ghost use Rattle.hsm_io.specs.Outside.{Rose};
 ghost use Rattle.hsm_io.specs.Texts.{Appends, AppendsFront};
-ghost use Rattle.hsm_session.specs.Plans.{least_for, least_length};
-ghost use Rattle.hsm_auth.specs.History.{IsKnown};
+ghost use Rattle.hsm_answers.specs.Messages.{least_for, least_length};
 ghost use Rattle.hsm_session.specs.Booking.{IsBooked, BooksAll, BooksFront, BooksSome, IsAnswered, console_line, entry_of, lane_words, reply_line, reply_of};
 ghost use Rattle.hsm_session.specs.Runs.{closed_line, end_line, is_cut, is_short, last_line, short_line};
-ghost use Rattle.hsm_session.specs.Lanes.{Drains, FeedsPiece, IsCacheOf, StopsDraining, StopsPiece, lane_end};
+ghost use Rattle.hsm_answers.specs.Kept.{IsCacheOf};
+ghost use Rattle.hsm_session.specs.Lanes.{Drains, FeedsPiece, StopsDraining, StopsPiece, lane_end};
 
 use crate::plans::{finish_cached, prepare_cached};
 use crate::text::{append, append_hex};

@@ -9,9 +9,8 @@ ghost use Rattle.hsm_session.specs.Cuts.{IsOpen};
 ghost use Rattle.hsm_session.specs.Runs.{IsRunOf};
 ghost use Rattle.hsm_session.specs.Scripts.{Piece, Said, script_of};
 
-use hsm_answers::words_authorise;
+use hsm_commands::asks_within_limits;
 use hsm_frame::laws::has_one_reading;
-use hsm_rows::{console_texts_stand, texts_stand};
 
 /// The lines of each script that reads have one run after a history: every run of it books the
 /// same and prints the same. It does nothing.
@@ -49,7 +48,5 @@ pub fn legal_runs()
     ensures { (m : Module) (h : List Entry) (script : List ℕ) (lines : List Said) (last : List Entry) (text : List ℕ) (over : ScriptEnd)
         → script_of m.hosts script ≡ Ok lines → IsRunOf m h lines last text over → IsLegal h → IsLegal last }
 {
-    words_authorise();
-    texts_stand();
-    console_texts_stand();
+    asks_within_limits();
 }

@@ -7,7 +7,8 @@ ghost use Rattle.hsm_auth.specs.History.{IsKnown};
 ghost use Rattle.hsm_session.specs.Reading.{said_of};
 ghost use Rattle.hsm_session.specs.Scripts.{Said, Piece};
 ghost use Rattle.hsm_session.specs.declared.lane.ScriptLane.{ScriptLane};
-ghost use Rattle.hsm_session.specs.Lanes.{Ends, IsAt, IsCacheOf, IsLine, StopsLine, TakesLine, run_end, all_held, weight};
+ghost use Rattle.hsm_answers.specs.Kept.{IsCacheOf};
+ghost use Rattle.hsm_session.specs.Lanes.{Ends, IsAt, IsLine, StopsLine, TakesLine, run_end, all_held, weight};
 
 use crate::lane::{Buffers, ScriptLane};
 use crate::lines::Line;

@@ -3,9 +3,10 @@
 ghost use Rattle.std.specs.Prelude.{◌≡◌, ◌≤◌, ◌<◌, ◌+◌, ◌^◌, ◌++◌, List, ℕ, [], length, Option};
 ghost use Rattle.hsm_frame.specs.Frames.{frame};
 ghost use Rattle.hsm_io.specs.Connections.{IsSilent, Traffic};
-ghost use Rattle.hsm_session.specs.Connections.{EndCause, Scene, Serves, scene};
-ghost use Rattle.hsm_session.specs.Lanes.{AreBytes, IsCacheOf, IsWaiting};
-ghost use Rattle.hsm_session.specs.Plans.{least_for};
+ghost use Rattle.hsm_session.specs.Connections.{EndCause, Scene, Serves, scene_of};
+ghost use Rattle.hsm_session.specs.Lanes.{AreBytes, IsWaiting};
+ghost use Rattle.hsm_answers.specs.Kept.{IsCacheOf};
+ghost use Rattle.hsm_answers.specs.Messages.{least_for};
 ghost use Rattle.hsm_session.specs.Serving.{IsServing, StepCause, Steps, holding, no_entry, one_more, report_of};
 
 use crate::batch::{BATCH, Behind, answer_front};
@@ -154,8 +155,8 @@ fn answer_messages<R: Wait, K: Link, C: Clock, G: Gate>(
     ensures desk { tools.new.pass.desk ≡ tools.old.pass.desk }
     ensures counted { count.new.messages ≤ length tools.new.pass.seen }
     ensures steps { Steps «module».now kind tools.old.lane
-        (scene tools.old.pass (C.last tools.old.clock) (C.to_come tools.old.clock) (G.calls tools.old.gate) (K.traffic link.old) tools.old.cache)
-        (scene tools.new.pass (C.last tools.new.clock) (C.to_come tools.new.clock) (G.calls tools.new.gate) (K.traffic link.new) tools.new.cache)
+        (scene_of C.last C.to_come G.calls tools.old (K.traffic link.old))
+        (scene_of C.last C.to_come G.calls tools.new (K.traffic link.new))
         (holding tools.old.frames.bytes tools.old.out.items count.old)
         (holding tools.new.frames.bytes tools.new.out.items count.new) result }
     ensures cause { StepCause (K.faults link.old) (K.faults link.new) (K.last_was_read link.new) result }
@@ -204,8 +205,8 @@ fn serve_piece<R: Wait, K: Link, C: Clock, G: Gate>(
     ensures desk { tools.new.pass.desk ≡ tools.old.pass.desk }
     ensures counted { count.new.messages ≤ length tools.new.pass.seen }
     ensures steps { Steps «module».now kind tools.old.lane
-        (scene tools.old.pass (C.last tools.old.clock) (C.to_come tools.old.clock) (G.calls tools.old.gate) (K.traffic link.old) tools.old.cache)
-        (scene tools.new.pass (C.last tools.new.clock) (C.to_come tools.new.clock) (G.calls tools.new.gate) (K.traffic link.new) tools.new.cache)
+        (scene_of C.last C.to_come G.calls tools.old (K.traffic link.old))
+        (scene_of C.last C.to_come G.calls tools.new (K.traffic link.new))
         (holding tools.old.frames.bytes tools.old.out.items count.old)
         (holding tools.new.frames.bytes tools.new.out.items count.new) result }
     ensures cause { StepCause (K.faults link.old) (K.faults link.new) (K.last_was_read link.new) result }
@@ -252,8 +253,8 @@ pub fn serve_link<R: Wait, K: Link, C: Clock, G: Gate>(
     // Where the link tells, nothing of it was read or written.
     requires silent { IsSilent (K.traffic link.old) }
     ensures serves { Serves «module».now kind tools.old.lane
-        (scene tools.old.pass (C.last tools.old.clock) (C.to_come tools.old.clock) (G.calls tools.old.gate) (K.traffic link.old) tools.old.cache)
-        (scene tools.new.pass (C.last tools.new.clock) (C.to_come tools.new.clock) (G.calls tools.new.gate) (K.traffic link.new) tools.new.cache) result }
+        (scene_of C.last C.to_come G.calls tools.old (K.traffic link.old))
+        (scene_of C.last C.to_come G.calls tools.new (K.traffic link.new)) result }
     ensures agrees { IsCacheOf «module».now tools.new.cache }
     ensures cause { EndCause (K.faults link.old) (K.faults link.new) (K.last_was_read link.new) result.ended }
     ensures lane { tools.new.lane ≡ tools.old.lane }

@@ -2,8 +2,7 @@
 
 ghost use Rattle.std.specs.Prelude.{◌≡◌, ◌≤◌, length};
 ghost use Rattle.hsm_auth.specs.History.{Fits};
-ghost use Rattle.hsm_answers.specs.Messages.{message_answer, message_ask};
-ghost use Rattle.hsm_session.specs.Plans.{least_for};
+ghost use Rattle.hsm_answers.specs.Messages.{message_answer, message_ask, least_for};
 
 use crate::plans::{finish, prepare};
 use hsm_auth::{Granted, Place};

@@ -1,4 +1,4 @@
-use Rattle.std.proofs.Common.{rules, IfErr, Option, Result, ◌≡◌, ◌<◌, ◌-◌, ◌+◌, ◌++◌, ◌∷◌, [], List, ℕ, Some, ap, arith, length, map, slice_get, slice_index_or, slice_set, subst, sym, ◌∙◌}
+use Rattle.std.proofs.Common.{rules, refl, IfErr, Option, Result, ◌≡◌, ◌<◌, ◌-◌, ◌+◌, ◌++◌, ◌∷◌, [], List, ℕ, Some, ap, arith, length, map, slice_get, slice_index_or, slice_set, subst, sym, ◌∙◌}
 use Rattle.std.proofs.lemmas.List.{length-map, map-append}
 use Rattle.std.proofs.lemmas.Result.{err_from_is_err_and}
 use Rattle.hsm_config.specs.Configs.{ports_of}
@@ -6,7 +6,9 @@ use Rattle.hsm_desk.specs.Passes.{PassView}
 use Rattle.hsm_io.specs.Sides.{IsNotAmong}
 use Rattle.hsm_server.specs.Lanes.{LaneState, lane_state}
 use Rattle.hsm_program.specs.declared.lanes.LanesFault.{LanesFault}
-use Rattle.hsm_program.specs.Lanes.{AreRefused, IsNewLane, keeps}
+use Rattle.hsm_program.specs.Lanes.{AreRefused, AskGates, IsNewLane, keeps}
+use Rattle.hsm_program.specs.Serving.{AsksGatesOf}
+use Rattle.hsm_program.proofs.Gates.{gates_refused, no_gates, one_gate_more}
 use Rattle.hsm_program.proofs.Apart.{apart}
 use Rattle.hsm_program.proofs.Lists.{map_at, stands_at}
 use Rattle.hsm_program.proofs.Opening.{OpenTo, all_open, map_set, open_first, open_more, place, refused_first, refused_next, source}
@@ -25,6 +27,21 @@ returns-in_err-lane-clause-refused g c =
     subst (λ (r : Result _ LanesFault). IfErr r (λ f. AreRefused (ports_of c.args.config.now) before after f)) (sym fault.1)
     (subst (λ (f : LanesFault). AreRefused (ports_of c.args.config.now) before after f) (sym fault.2) refused)
 
+pub returns-in_err-lane-clause-refused_gates : goal.returns-in_err-lane-clause-refused_gates
+returns-in_err-lane-clause-refused_gates g c =
+    let before = g.B.Bench.gates c.args.bench.now in
+    let after = g.B.Bench.gates c.open_lane.new.bench in
+    let refused = gates_refused 0 before before after _ (no_gates before before refl) c.in_err-lane.ensures.refused_gate in
+    let fault = err_from_is_err_and c.from_residual.result c.from_residual.ensures.1 in
+    subst (λ (r : Result _ LanesFault). IfErr r (λ f. AskGates before after f)) (sym fault.1)
+    (subst (λ (f : LanesFault). AskGates before after f) (sym fault.2) refused)
+
+pub returns-in-Err-clause-refused_gates : goal.returns-in-Err-clause-refused_gates
+returns-in-Err-clause-refused_gates g c = (1, c.in_ok-lane.ensures.gate)
+
+pub returns-in-Err-push-clause-refused_gates : goal.returns-in-Err-push-clause-refused_gates
+returns-in-Err-push-clause-refused_gates g c = (c.lanes.number + 1, one_gate_more c.lanes.number _ _ _ c.lanes.invariant.gates c.in_ok-lane-2.ensures.gate)
+
 pub lanes-init : goal.lanes-init
 lanes-init g c =
     let ports_are : c.deref.result.now ≡ ports_of c.args.config.now = search rules in
@@ -38,6 +55,7 @@ lanes-init g c =
           (g.B.Bench.doors c.args.bench.now) (g.B.Bench.doors c.open_lane.new.bench) 1 1
           (map (lane_state g.B.Door.Door.doorway g.B.Door.Door.faults g.B.Door.Door.broken g.B.Door.Door.is_out g.B.Clock.Clock.last g.B.Clock.Clock.to_come g.B.Gate.Gate.calls) l)) (sym items) first;
       moments = c.open_lane.ensures.moments;
+      gates = c.in_ok-lane.ensures.gate;
       files = c.open_lane.ensures.files;
       seeds = c.open_lane.ensures.seeds;
     }
@@ -97,6 +115,15 @@ returns-in_err-lane-2-clause-refused g c =
     subst (λ (r : Result _ LanesFault). IfErr r (λ f. AreRefused (ports_of c.args.config.now) (g.B.Bench.doors c.args.bench.now) (g.B.Bench.doors c.open_lane-in-lanes.new.bench) f)) (sym fault.1)
     (subst (λ (f : LanesFault). AreRefused (ports_of c.args.config.now) (g.B.Bench.doors c.args.bench.now) (g.B.Bench.doors c.open_lane-in-lanes.new.bench) f) (sym fault.2) refused)
 
+pub returns-in_err-lane-2-clause-refused_gates : goal.returns-in_err-lane-2-clause-refused_gates
+returns-in_err-lane-2-clause-refused_gates g c =
+    let before = g.B.Bench.gates c.args.bench.now in
+    let after = g.B.Bench.gates c.open_lane-in-lanes.new.bench in
+    let refused = gates_refused c.lanes.number before (g.B.Bench.gates c.lanes.bench) after _ c.lanes.invariant.gates c.in_err-lane-2.ensures.refused_gate in
+    let fault = err_from_is_err_and c.from_residual-in_err-lane-2.result c.from_residual-in_err-lane-2.ensures.1 in
+    subst (λ (r : Result _ LanesFault). IfErr r (λ f. AskGates before after f)) (sym fault.1)
+    (subst (λ (f : LanesFault). AskGates before after f) (sym fault.2) refused)
+
 pub lanes-preserved : goal.lanes-preserved
 lanes-preserved g c =
     let state = lane_state g.B.Door.Door.doorway g.B.Door.Door.faults g.B.Door.Door.broken g.B.Door.Door.is_out g.B.Clock.Clock.last g.B.Clock.Clock.to_come g.B.Gate.Gate.calls in
@@ -131,6 +158,7 @@ lanes-preserved g c =
       opened = subst (λ (l : List LaneState). OpenTo c.args.module.now c.args.config.now.accept (g.B.Bench.moments c.args.bench.now) (ports_of c.args.config.now) c.args.desk.now
           (g.B.Bench.doors c.args.bench.now) (g.B.Bench.doors c.open_lane-in-lanes.new.bench) c.next_span-span.result (c.lanes.number + 1) l) (sym shape) more;
       moments = c.open_lane-in-lanes.ensures.moments ∙ c.lanes.invariant.moments;
+      gates = one_gate_more c.lanes.number _ _ _ c.lanes.invariant.gates c.in_ok-lane-2.ensures.gate;
       files = c.open_lane-in-lanes.ensures.files ∙ c.lanes.invariant.files;
       seeds = c.open_lane-in-lanes.ensures.seeds ∙ c.lanes.invariant.seeds;
     }
@@ -139,3 +167,9 @@ pub returns-clause-made : goal.returns-clause-made
 returns-clause-made g c =
     let count : length (ports_of c.args.config.now) ≡ c.len-number-end.result = search rules in
     all_open _ _ _ _ _ _ _ _ _ _ c.lanes.invariant.opened (omega (arith, count, c.lanes-test.false, c.lanes.auto.number-end))
+
+pub returns-clause-gates : goal.returns-clause-gates
+returns-clause-gates g c =
+    let count : length (ports_of c.args.config.now) ≡ c.len-number-end.result = search rules in
+    let all : c.lanes.number ≡ length (ports_of c.args.config.now) = omega (arith, count, c.lanes-test.false, c.lanes.auto.number-end) in
+    subst (λ (n : ℕ). AsksGatesOf n (g.B.Bench.gates c.args.bench.now) (g.B.Bench.gates c.lanes.bench)) all c.lanes.invariant.gates

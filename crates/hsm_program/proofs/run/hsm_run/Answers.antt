@@ -10,8 +10,8 @@ returns-in-Ok g c =
     let local = asks_local (names c.args.words.now) c.in-Ok.command c.in-Ok.ensures is_local in
     let same = c.without_lanes-in-Ok.ensures in
     let ended = c.hsm_local-status.ensures in
-    let stay : (g.B.Bench.seeds c.hsm_local-status.new.bench ≡ g.B.Bench.seeds c.args.bench.now) × (g.B.Bench.doors c.hsm_local-status.new.bench ≡ g.B.Bench.doors c.args.bench.now) =
-    (ended.seeds, ended.doors) in
+    let stay : (g.B.Bench.seeds c.hsm_local-status.new.bench ≡ g.B.Bench.seeds c.args.bench.now) × (g.B.Bench.doors c.hsm_local-status.new.bench ≡ g.B.Bench.doors c.args.bench.now) × (g.B.Bench.gates c.hsm_local-status.new.bench ≡ g.B.Bench.gates c.args.bench.now) =
+    (ended.seeds, ended.doors, ended.gates) in
     record {
       words = rw same.1 (no_usage _ _ local ended.words);
       config = rw same.1 ended.config;
@@ -27,6 +27,8 @@ returns-in-Ok g c =
       file_cause = rw same.1 ended.file_cause;
       seed_cause = rw same.1 (λ is. absurd (no_seed_fault _ _ ended.status is));
       listen_cause = not_of_serve _ _ local;
+      seed_first = not_of_serve _ _ local;
+      gates = not_of_serve _ _ local;
       out_cause = rw same.1 ended.out_cause;
       no_file = ended.no_file;
       files = ended.files;

@@ -8,7 +8,7 @@ use Rattle.hsm_rows.specs.declared.settings.Module.{Module}
 use Rattle.hsm_server.specs.Lanes.{LaneView, Ran, lane_state, lane_view}
 use Rattle.hsm_program.specs.Headline.{Setting}
 use Rattle.hsm_program.specs.Lanes.{AreJoined, AreLanes, end_of_lane}
-use Rattle.hsm_program.specs.Serving.{ServedBy}
+use Rattle.hsm_program.specs.Serving.{AsksGatesOf, ServedBy}
 use Rattle.hsm_program.proofs.Lists.{map_at, stands_at}
 use Rattle.hsm_program.proofs.Served.{few_some, map_twice, pass_of, ran_zip, ready, served_some}
 use Rattle.hsm_program.proofs.Serving.{view_of}
@@ -51,6 +51,21 @@ returns-clause-served g c =
     (served_some c.own_entries.ensures.total c.own_entries.ensures.there c.own_entries.ensures.every c.words_authorise.ensures c.clear_where_granted.ensures.legal
     c.args.config.now doors (g.B.Bench.doors c.open_lanes.new.bench) seeds moments c.in-Ok-new.desk (map state lanes) (map state served) c.end_lanes-pass.result
     made ran joined c.end_lanes-pass.ensures.numbers c.in_ok-lanes.ensures.asked)
+
+pub returns-clause-gates : goal.returns-clause-gates
+returns-clause-gates g c =
+    let state = lane_state g.B.Door.Door.doorway g.B.Door.Door.faults g.B.Door.Door.broken g.B.Door.Door.is_out g.B.Clock.Clock.last g.B.Clock.Clock.to_come g.B.Gate.Gate.calls in
+    let view = lane_view g.B.Door.Door.doorway g.B.Door.Door.faults g.B.Door.Door.broken in
+    let lanes = c.in_ok-lanes.lanes.items in
+    let ends = c.end_lanes-pass.new.ends.items in
+    let opened = c.in_ok-lanes.ensures.made.count in
+    let states = length-map lanes state in
+    let kept = c.run_all.ensures.count in
+    let ended = ap (λ (l : List _). length l) c.end_lanes-pass.ensures.ends in
+    let each_end = length-map c.run_all.new.lanes.items end_of_lane in
+    let shown = length-map ends view in
+    let is : length (ports_of c.args.config.now) ≡ length (map view ends) = omega (arith, opened, states, kept, ended, each_end, shown) in
+    subst (λ (n : ℕ). AsksGatesOf n (g.B.Bench.gates c.args.bench.now) (g.B.Bench.gates c.open_lanes.new.bench)) is c.in_ok-lanes.ensures.gates
 
 pub returns-clause-few : goal.returns-clause-few
 returns-clause-few g c = λ k d less.

@@ -1,9 +1,7 @@
 use Rattle.std.proofs.Common.{◌≡◌, ℕ, ◌+◌, ◌++◌, List, length, drop, ap, subst, sym, ◌∙◌, refl, arith, length-append, length-drop}
-use Rattle.hsm_answers.specs.Kept.{opened_of}
+use Rattle.hsm_answers.specs.Kept.{Opens, opened_of}
 use Rattle.hsm_answers.specs.Messages.{message_ask}
 use Rattle.hsm_frame.specs.Frames.{frame}
-use Rattle.hsm_lmk.specs.Cache.{kept_all}
-use Rattle.hsm_lmk.specs.Caches.{capacity_of, kept_in}
 use Rattle.hsm_session.specs.declared.plans.Plan.{Plan}
 use Rattle.hsm_session.specs.Batches.{IsPrepared, Prepares, frames_of}
 use Rattle.hsm_session.proofs.Batching.{messages_push, prepares_push}
@@ -32,11 +30,10 @@ messages-preserved g c =
       own = c.prepare_cached-plan.ensures.plan;
       ask = c.prepare_cached-plan.ensures.ask ∙ ap (λ (text : List ℕ). message_ask m kind text) (sym same);
       may = c.prepare_cached-plan.ensures.may;
-      capacity = c.prepare_cached-plan.ensures.capacity;
-      kept = c.prepare_cached-plan.ensures.kept ∙ ap (λ (text : List ℕ). kept_all (capacity_of c.messages.cache) (kept_in c.messages.cache) (opened_of m kind text)) (sym same);
+      cache = subst (λ (text : List ℕ). Opens m c.messages.cache c.prepare_cached-plan.new.cache (opened_of m kind text)) (sym same) c.prepare_cached-plan.ensures.cache;
     } in
     record {
-      agrees = c.prepare_cached-plan.ensures.agrees;
+      agrees = c.prepare_cached-plan.ensures.cache.agrees;
       prepared = subst (λ (all : List Plan). Prepares m kind c.args.cache.now all c.prepare_cached-plan.new.cache) (sym c.add.ensures.items)
           (prepares_push m kind c.args.cache.now plans c.messages.cache plan c.prepare_cached-plan.new.cache c.messages.invariant.prepared prepared);
       within = omega (arith, long, length-drop at held, c.messages.invariant.within);

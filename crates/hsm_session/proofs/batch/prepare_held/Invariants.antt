@@ -1,6 +1,6 @@
 use Rattle.std.proofs.Common.{◌≡◌, ◌*◌, ◌≤◌, ◌-◌, ◌++◌, length, drop}
 use Rattle.hsm_session.specs.Batches.{Prepares, frames_of}
-use Rattle.hsm_session.specs.Lanes.{IsCacheOf}
+use Rattle.hsm_answers.specs.Kept.{IsCacheOf}
 use Rattle.hsm_session.proofs.batch.prepare_held.Given as goal
 
 abbrev pub invariant-messages : goal.invariant-messages

@@ -1,6 +1,6 @@
 use Rattle.std.proofs.Common.{◌≡◌, length}
 use Rattle.hsm_auth.specs.History.{IsKnown}
-use Rattle.hsm_session.specs.Lanes.{IsCacheOf}
+use Rattle.hsm_answers.specs.Kept.{IsCacheOf}
 use Rattle.hsm_session.proofs.Answering.{Answers}
 use Rattle.hsm_session.proofs.lane.answer_held.Given as goal
 

@@ -2,7 +2,8 @@ use Rattle.std.proofs.Common.{◌≡◌, ◌+◌, ◌≤◌, ◌^◌, sum_by, dr
 use Rattle.std.specs.List.{AllByRecursion}
 use Rattle.hsm_auth.specs.History.{IsKnown}
 use Rattle.hsm_session.specs.Reading.{all_said}
-use Rattle.hsm_session.specs.Lanes.{IsCacheOf, IsLine, all_held, weight}
+use Rattle.hsm_answers.specs.Kept.{IsCacheOf}
+use Rattle.hsm_session.specs.Lanes.{IsLine, all_held, weight}
 use Rattle.hsm_session.proofs.Progress.{SoFar}
 use Rattle.hsm_session.proofs.script.script_run.Given as goal
 

@@ -2,7 +2,7 @@ use Rattle.std.proofs.Common.{◌≡◌, ◌∙◌, ℕ, subst, sym}
 use Rattle.hsm_frame.specs.Frames.{IsShort}
 use Rattle.hsm_session.specs.declared.serving.ConnEnd.{ConnEnd}
 use Rattle.hsm_session.specs.Connections.{scene}
-use Rattle.hsm_session.specs.Plans.{least_for}
+use Rattle.hsm_answers.specs.Messages.{least_for}
 use Rattle.hsm_session.specs.Serving.{EndsServing, IsServing, holding}
 use Rattle.hsm_session.proofs.Talking.{at_traffic, going_sends, over_short, over_write_fault}
 use Rattle.hsm_session.proofs.serving.answer_messages.Goals as goal
@@ -19,9 +19,9 @@ returns-in-Ok-clause-steps g c = λ start silent begun.
     let now = scene new.pass (g.C.Clock.last new.clock) (g.C.Clock.to_come new.clock) (g.G.Gate.calls new.gate) (g.K.Link.traffic c.answer_front.new.link) new.cache in
     let last = g.K.Link.traffic c.send.new.link in
     let begun_at = subst (λ (n : ℕ). IsServing m kind n start old (holding tools.frames.bytes tools.out.items c.messages.count)) (sym c.messages.invariant.lane) (c.messages.invariant.going start begun) in
-    let answered = subst (λ (n : ℕ). IsServing m kind n start now (holding new.frames.bytes new.out.items count)) c.messages.invariant.lane (c.in-Ok-Short.ensures.going start begun_at) in
-    let least : new.frames.least ≡ least_for m kind = c.answer_front.ensures.frames ∙ c.messages.invariant.least ∙ c.requires.least in
-    let short = rw c.in-Ok-Short.field-0-is at c.in-Ok-Short.ensures.behind in
+    let answered = subst (λ (n : ℕ). IsServing m kind n start now (holding new.frames.bytes new.out.items count)) c.messages.invariant.lane (c.in-Ok-Short.ensures.answers.came.going start begun_at) in
+    let least : tools.frames.least ≡ least_for m kind = c.messages.invariant.least ∙ c.requires.least in
+    let short = rw c.in-Ok-Short.field-0-is at c.in-Ok-Short.ensures.answers.came.behind in
     let sent = going_sends m kind lane start now last new.frames.bytes _ _ count c.in-Ok.ensures.ok answered in
     subst (λ (ended : ConnEnd). EndsServing m kind lane start (at_traffic now last) count ended) (sym c.end_short.ensures)
     (over_short m kind lane start _ _ _ c.in-Ok-Short.length (subst (λ (n : ℕ). IsShort n c.in-Ok-Short.length new.frames.bytes) least short) silent sent)
@@ -38,6 +38,6 @@ returns-in-Err-send-clause-steps g c = λ start silent begun.
     let now = scene new.pass (g.C.Clock.last new.clock) (g.C.Clock.to_come new.clock) (g.G.Gate.calls new.gate) (g.K.Link.traffic c.answer_front.new.link) new.cache in
     let last = g.K.Link.traffic c.send.new.link in
     let begun_at = subst (λ (n : ℕ). IsServing m kind n start old (holding tools.frames.bytes tools.out.items c.messages.count)) (sym c.messages.invariant.lane) (c.messages.invariant.going start begun) in
-    let answered = subst (λ (n : ℕ). IsServing m kind n start now (holding new.frames.bytes new.out.items count)) c.messages.invariant.lane (c.in-Ok-Short.ensures.going start begun_at) in
+    let answered = subst (λ (n : ℕ). IsServing m kind n start now (holding new.frames.bytes new.out.items count)) c.messages.invariant.lane (c.in-Ok-Short.ensures.answers.came.going start begun_at) in
     let sent = going_sends m kind lane start now last _ _ _ _ c.in-Err-send.ensures.front.1 answered in
     over_write_fault c.has_one_reading.ensures.some m kind lane start _ _ _ _ silent sent

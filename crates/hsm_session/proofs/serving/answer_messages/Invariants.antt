@@ -1,6 +1,6 @@
 use Rattle.std.proofs.Common.{◌≡◌, ◌≤◌, length}
 use Rattle.hsm_session.specs.Connections.{Scene, scene}
-use Rattle.hsm_session.specs.Lanes.{IsCacheOf}
+use Rattle.hsm_answers.specs.Kept.{IsCacheOf}
 use Rattle.hsm_session.specs.Serving.{IsServing, holding}
 use Rattle.hsm_session.proofs.serving.answer_messages.Given as goal
 

@@ -4,7 +4,7 @@ use Rattle.hsm_session.specs.declared.serving.ConnEnd.{ConnEnd}
 use Rattle.hsm_session.specs.declared.serving.Count.{Count}
 use Rattle.hsm_session.specs.declared.serving.Report.{Report}
 use Rattle.hsm_session.specs.Connections.{Serves, scene}
-use Rattle.hsm_session.specs.Plans.{least_for}
+use Rattle.hsm_answers.specs.Messages.{least_for}
 use Rattle.hsm_session.specs.Serving.{StepCause, Steps, holding, report_of}
 use Rattle.hsm_session.proofs.Talking.{starts_at, waits_at_start}
 use Rattle.hsm_session.proofs.serving.serve_link.Goals as goal

@@ -1,7 +1,8 @@
 use Rattle.std.proofs.Common.{◌≡◌, ◌≤◌, length}
 use Rattle.hsm_session.specs.Connections.{scene}
-use Rattle.hsm_session.specs.Lanes.{IsCacheOf, IsWaiting}
-use Rattle.hsm_session.specs.Plans.{least_for}
+use Rattle.hsm_answers.specs.Kept.{IsCacheOf}
+use Rattle.hsm_session.specs.Lanes.{IsWaiting}
+use Rattle.hsm_answers.specs.Messages.{least_for}
 use Rattle.hsm_session.specs.Serving.{IsServing, holding}
 use Rattle.hsm_session.proofs.serving.serve_link.Given as goal
 

@@ -1,7 +1,7 @@
 use Rattle.std.proofs.Common.{◌≡◌, ◌<◌, ◌++◌, length, None, List, ℕ}
 use Rattle.hsm_frame.specs.Calls.{IsNotYet}
 use Rattle.hsm_auth.specs.History.{IsKnown}
-use Rattle.hsm_session.specs.Lanes.{IsCacheOf}
+use Rattle.hsm_answers.specs.Kept.{IsCacheOf}
 use Rattle.hsm_session.proofs.Feeding.{Feeds}
 use Rattle.hsm_session.proofs.lane.ScriptLane.take_piece.Given as goal
 

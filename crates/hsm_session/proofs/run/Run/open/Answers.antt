@@ -1,7 +1,7 @@
 use Rattle.std.proofs.Common.{◌≡◌, ◌+◌, ◌∙◌, ◌∷◌, ℕ, [], List, None, length, length-append, slice_get, Some, sym, ap, subst, arith}
 use Rattle.hsm_frame.specs.Calls.{Held}
 use Rattle.hsm_session.specs.declared.lane.ScriptLane.{ScriptLane}
-use Rattle.hsm_session.specs.Plans.{least_length}
+use Rattle.hsm_answers.specs.Messages.{least_length}
 use Rattle.hsm_session.specs.Lanes.{IsLaneAt, all_held}
 use Rattle.hsm_session.proofs.EndLaws.{lane_new, held_more}
 use Rattle.hsm_session.proofs.Places.{each_pushed}

@@ -1,5 +1,0 @@
-use Rattle.hsm_codes.proofs.Answers.{bears}
-use Rattle.hsm_codes.proofs.answers_bear_codes.Goals as goal
-
-pub returns : goal.returns
-returns c = bears

@@ -1,5 +1,0 @@
-use Rattle.std.proofs.Common.{length}
-use Rattle.hsm_commands.proofs.terms.+put_spaced.Given as goal
-
-abbrev pub decreases-put_spaced : goal.decreases-put_spaced
-decreases-put_spaced l = length l.terms.now

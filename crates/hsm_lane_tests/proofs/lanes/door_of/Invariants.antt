@@ -1,6 +1,0 @@
-use Rattle.std.proofs.Common.{All}
-use Rattle.hsm_io.specs.MemoryLinks.{IsUntouched}
-use Rattle.hsm_lane_tests.proofs.lanes.door_of.Given as goal
-
-abbrev pub invariant-loop-input : goal.invariant-loop-input
-invariant-loop-input l = All IsUntouched l.links.items

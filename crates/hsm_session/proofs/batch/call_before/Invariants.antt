@@ -1,0 +1,6 @@
+use Rattle.std.proofs.Common.{◌≡◌, ◌-◌, ◌++◌, List, Some}
+use Rattle.hsm_io.specs.Gates.{GateCall, calls_before}
+use Rattle.hsm_session.proofs.batch.call_before.Given as goal
+
+abbrev pub invariant-messages : goal.invariant-messages
+invariant-messages g l = (c : List GateCall) → g.G.Gate.calls l.fn.gate ≡ Some c → g.G.Gate.calls l.gate ≡ Some (c ++ calls_before l.lane l.first (l.message - l.first))
