@@ -6,7 +6,7 @@
     model/console_rows.py output GROUP          what it prints
 
 The groups are keys, pins, components, texts, full, notes and lanes under the test set, and grants under that of
-equal_pairs.toml; crates/hsm_acceptance/src/consoles.rt has their cases. The header is 0001, there are two host lanes,
+equal_pairs.toml; crates/test_acceptance/src/consoles.rt has their cases. The header is 0001, there are two host lanes,
 the officers' words are abc and hello. The answers are those of hsm_model.py. It needs the command openssl. Nothing of
 the crates is used.
 """

@@ -6,7 +6,7 @@
     model/data_rows.py output GROUP         what that script prints
 
 The groups are cvvs (CW, CY), macs (M6), compared (M8), echo (B2, NC) and counts (NO, RA) under the test set, and
-equal_pairs under the set of that example; crates/hsm_acceptance/src/cards.rt, macs.rt and diagnostics.rt have their
+equal_pairs under the set of that example; crates/test_acceptance/src/cards.rt, macs.rt and diagnostics.rt have their
 cases. Each group is one script. The header is 0001 and no grant lives. The answers are those of hsm_model.py. It needs
 the command openssl. Nothing of the crates is used.
 """

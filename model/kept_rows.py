@@ -4,7 +4,7 @@
     model/kept_rows.py
 
 A lane keeps the last 64 keys that its messages opened, by type, scheme and text, from one connection to the next. Each
-connection is printed as frames, replies and hits; crates/hsm_lane_tests/src/kept.rt has them. It needs the command
+connection is printed as frames, replies and hits; crates/test_lanes/src/kept.rt has them. It needs the command
 openssl. Nothing of the crates is used.
 """
 from hsm_model import Hsm, digits_of, scheme_of

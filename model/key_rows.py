@@ -5,7 +5,7 @@
     model/key_rows.py script GROUP          the group's messages as the lines of a script
     model/key_rows.py output GROUP          what that script prints under the test set
 
-The groups are a0, a6, a8, bu, trailers and draws; crates/hsm_acceptance/src/keys.rt has their cases. Each group is one
+The groups are a0, a6, a8, bu, trailers and draws; crates/test_acceptance/src/keys.rt has their cases. Each group is one
 script, so that its draws begin at place 0. The header is 0001, the seed is 32 zero bytes and no grant lives. The codes
 of refusals stand beside their messages here; all digits are computed. It needs the command openssl. Nothing of the
 crates is used.

@@ -7,7 +7,7 @@
 
 The groups are known (CA, DE, DG, DC), whose answers follow from their definitions by hand, translations (CA, CC), pins
 (JA, BA, NG), offsets (DE, DA, EA) and pvvs (DG, DC, EC) under the test set, equal_pairs and equal_pairs_but_14 under
-the sets of these examples; crates/hsm_acceptance/src/pins.rt has their cases. Each group is one script, so that its
+the sets of these examples; crates/test_acceptance/src/pins.rt has their cases. Each group is one script, so that its
 draws begin at place 0. The header is 0001, the seed is 32 zero bytes and no grant lives. The answers are those of
 hsm_model.py. It needs the command openssl. Nothing of the crates is used.
 """
