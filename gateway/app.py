@@ -19,7 +19,37 @@ from gateway.refusals import Refusals
 from gateway.relay import Relay
 from gateway.watch import Watch
 
-USAGE = "usage: gateway CONFIG"
+USAGE = "usage: gateway CONFIG, or gateway --check CONFIG; gateway --help says more"
+HELP = """usage: gateway CONFIG
+       gateway --check CONFIG
+       gateway --help
+
+A front door for a laboratory: any number of clients over the host lanes of
+`hsm_tool serve`. docs/GATEWAY.md is its page.
+
+CONFIG is a document in TOML. It wants these keys:
+  version = 1
+  module = "module.toml"        the configuration of the module
+  listen = ["127.0.0.1:1600"]   addresses with ports for clients
+and may have:
+  program = "hsm_tool"          the program, which is then started and watched
+  watch_port = 9464             the port of /health and /metrics on 127.0.0.1
+  allow = ["192.0.2.0/24"]      who may connect, else this machine alone
+  fault_seed, [tls], [log], [limits], [[fault]]
+
+The log goes to standard output, a line of JSON for each message. On SIGTERM or
+SIGINT no more messages are taken, those under way are answered, and the program
+is ended. A second signal ends the waiting.
+
+--check reads CONFIG and the files that it names, and prints OK and the number
+of lanes. It opens no port and starts nothing.
+
+Exit status: the program's own, 143 where the gateway's end ended it; 0 without
+a program. What stops the gateway before it serves is told by one line on
+standard error, and has the status
+  64  the words are wrong             72  the program is not there
+  66  a file can't be read            73  the log can't be opened
+  69  a port can't be listened on     78  a configuration is wrong"""
 # Exit statuses of the gateway's own, after sysexits.h; the others are the program's.
 WORDS, NO_FILE, NO_DOOR, NO_PROGRAM, NO_LOG, WRONG = 64, 66, 69, 72, 73, 78
 ENDED_SECONDS = 1.0  # for replies that are still to be written, once the program has ended for good
@@ -33,15 +63,21 @@ class Refused(Exception):
         self.status = status
 
 
-@dataclass
-class Parts:
-    """What is read and opened before the gateway serves."""
+@dataclass(frozen=True)
+class Read:
+    """What is read before anything is opened."""
 
     settings: settings.Settings
     refusals: Refusals
     context: ssl.SSLContext | None
     program: str | None
-    descriptor: int
+
+
+@dataclass(frozen=True)
+class Opened:
+    """What is opened before the gateway serves."""
+
+    log: int
     doors: list[tuple[socket.socket, bool]]
     watch: socket.socket | None
 
@@ -49,17 +85,16 @@ class Parts:
 class Gateway:
     """The gateway while it serves."""
 
-    def __init__(self, parts: Parts) -> None:
-        loop = asyncio.get_running_loop()
-        self.parts, self.settings = parts, parts.settings
-        self.journal = journal.Journal(parts.descriptor, loop)
-        self.figures = Figures(parts.refusals.commands)
-        self.relay = Relay(parts.settings, self.journal, self.figures, parts.refusals)
-        self.lanes = [Lane(self.relay, place) for place in range(len(parts.settings.module.ports))]
-        self.doors = doors.Doors(self.relay, parts.doors, parts.context)
+    def __init__(self, found: Read, held: Opened) -> None:
+        self.settings, self.watch_door = found.settings, held.watch
+        self.journal = journal.Journal(held.log, asyncio.get_running_loop())
+        self.figures = Figures(found.refusals.commands)
+        self.relay = Relay(found.settings, self.journal, self.figures, found.refusals)
+        self.lanes = [Lane(self.relay, place) for place in range(len(found.settings.module.ports))]
+        self.doors = doors.Doors(self.relay, held.doors, found.context)
         self.watch = Watch(self.health, self.metrics)
-        self.program = parts.program and program.Program(
-            parts.program, parts.settings.module.path, self.journal, self.figures, self.renew)
+        self.program = found.program and program.Program(
+            found.program, found.settings.module.path, self.journal, self.figures, self.renew)
         self.stopped = asyncio.Event()
         self.began = time.monotonic()
 
@@ -76,8 +111,8 @@ class Gateway:
         self.relay.on_sweep.append(self.look)
         self.relay.sweep()
         self.doors.open()
-        if self.parts.watch is not None:
-            await self.watch.open(self.parts.watch)
+        if self.watch_door is not None:
+            await self.watch.open(self.watch_door)
         self.journal.event("gateway", f"serves {len(self.lanes)} lanes")
         stopping = asyncio.create_task(self.stopped.wait())
         await asyncio.wait({stopping, *([running] if running else [])}, return_when=asyncio.FIRST_COMPLETED)
@@ -93,6 +128,8 @@ class Gateway:
         status = await self.program.end(running) if self.program and running else 0
         self.journal.event("gateway", f"ends with status {status}")
         self.journal.end()
+        if self.program and self.program.in_vain:
+            print(f"gateway: {self.program.in_vain}", file=sys.stderr)
         return status
 
     def stop(self) -> None:
@@ -138,12 +175,12 @@ class Gateway:
     def metrics(self) -> str:
         """The text of /metrics."""
         relay, lanes = self.relay, self.lanes
+        self.figures.counted["log_lines_lost", ""] = self.journal.lost
         states = ("starting", "serving", "out", "spent")
         links = [(lane, relay.links[lane.place]) for lane in lanes]
         return self.figures.text([
             ("clients_now", "Clients that are connected.", [("", self.doors.inside)]),
             ("waiting_messages", "Messages that wait for a lane.", [("", len(relay.waiting))]),
-            ("log_lines_lost", "Lines of the log that were lost.", [("", self.journal.lost)]),
             ("lanes", "Lanes by state.", [
                 (f'state="{state}"', sum(lane.state == state for lane in lanes)) for state in states]),
             ("lane_under_way", "Messages that a lane was given and has not answered.", [
@@ -179,35 +216,47 @@ def read_table() -> Refusals:
     return Refusals(*forms.read_table(text.splitlines()))
 
 
-def prepared(path: str) -> Parts:
-    """Reads and opens what the gateway needs. Raises Refused; nothing is started then."""
+def read(path: str) -> Read:
+    """Reads the configuration and the files that it names. Raises Refused."""
     with refusing():
         chosen = settings.read(path)
-        refusals = read_table()
-        context = doors.context_of(chosen.tls) if chosen.tls else None
-        name = program.found(chosen.program) if chosen.program else None
+        return Read(chosen, read_table(), doors.context_of(chosen.tls) if chosen.tls else None,
+                    program.found(chosen.program) if chosen.program else None)
+
+
+def opened(chosen: settings.Settings) -> Opened:
+    """Opens the log and all ports. Raises Refused; no client was let in then."""
     try:
-        descriptor = journal.open_log(chosen.log.file)
+        log = journal.open_log(chosen.log.file)
     except OSError as fault:
         raise Refused(NO_LOG, f"{fault.filename}: {fault.strerror}") from None
     with refusing():
-        opened = doors.open_doors(chosen)
+        listening = doors.open_doors(chosen)
         watch = doors.opened(("127.0.0.1", chosen.watch_port), 60) if chosen.watch_port else None
-    return Parts(chosen, refusals, context, name, descriptor, opened, watch)
+    return Opened(log, listening, watch)
 
 
-async def serve(parts: Parts) -> int:
-    return await Gateway(parts).run()
+async def serve(found: Read, held: Opened) -> int:
+    return await Gateway(found, held).run()
 
 
 def main(words: list[str]) -> int:
-    """Serves under the configuration that the one word names. Gives the exit status."""
-    if len(words) != 1 or not words[0] or words[0].startswith("-"):
+    """Serves under the configuration that the words name, or checks it. Gives the exit status."""
+    if words in (["--help"], ["-h"]):
+        print(HELP)
+        return 0
+    is_check = words[:1] == ["--check"]
+    names = words[is_check:]
+    if len(names) != 1 or not names[0] or names[0].startswith("-"):
         print(USAGE, file=sys.stderr)
         return WORDS
     try:
-        parts = prepared(words[0])
+        found = read(names[0])
+        if is_check:
+            print(f"OK {len(found.settings.module.ports)}")
+            return 0
+        held = opened(found.settings)
     except Refused as refused:
         print(f"gateway: {refused}", file=sys.stderr)
         return refused.status
-    return asyncio.run(serve(parts))
+    return asyncio.run(serve(found, held))

@@ -42,7 +42,8 @@ class Figures:
         self.kinds: dict[bytes, Kind] = {}  # those of a known command and a code of two digits
         self.named: dict[tuple[str, str], Kind] = {}  # all, by command and code
         self.times: dict[str, Times] = {}
-        self.counted: Counter[tuple[str, str]] = Counter()  # by the name of a counter and its labels
+        # By the name of a counter and its labels; one without labels is there from the start.
+        self.counted = Counter({(name, ""): 0 for name in PLAIN})
 
     def kind(self, key: bytes) -> Kind:
         """The kind of these four bytes. What is no known command is `other`, and what is no code of two digits `??`."""
@@ -77,7 +78,7 @@ class Figures:
         for command, times in self.times.items():
             lines += histogram(command, times)
         for name in sorted({name for name, _ in self.counted}):
-            lines += head(f"{name}_total", "counter", COUNTERS.get(name, name))
+            lines += head(f"{name}_total", "counter", COUNTERS[name])
             lines += [row(f"{name}_total", labels, value) for (other, labels), value in sorted(self.counted.items())
                       if other == name]
         for name, told, values in gauges:
@@ -86,16 +87,19 @@ class Figures:
         return "\n".join(lines) + "\n"
 
 
-COUNTERS = {
+# What is told of each counter; those of PLAIN have no labels.
+PLAIN = {
     "clients": "Clients that were let in.",
-    "clients_refused": "Clients that were not let in, by cause.",
-    "clients_ended": "Clients whose connection the gateway ended, by cause.",
-    "messages_lost": "Messages that were not answered, by cause.",
-    "messages_changed": "Messages to which a fault rule was applied, by act.",
-    "lanes_lost": "Connections to lanes that ended, or were ended since no answer came.",
     "lane_connections": "Connections to lanes that were made.",
-    "program_starts": "Starts of the program.",
-    "log_lines_lost": "Lines of the log that were lost."}
+    "lanes_lost": "Connections to lanes that ended, or were ended since no answer came.",
+    "log_lines_lost": "Lines of the log that were lost.",
+    "program_starts": "Starts of the program."}
+COUNTERS = {
+    **PLAIN,
+    "clients_ended": "Clients whose connection the gateway ended, by cause.",
+    "clients_refused": "Clients that were not let in, by cause.",
+    "messages_changed": "Messages to which a fault rule was applied, by act.",
+    "messages_lost": "Messages that were not answered, by cause."}
 
 
 def head(name: str, kind: str, told: str) -> list[str]:

@@ -4,6 +4,7 @@ Lines are gathered for a few milliseconds and written by a thread of their own, 
 no client. At most MOST_BYTES of them wait; further ones are lost, counted, and told of by a line once there is room.
 """
 import asyncio
+import errno
 import json
 import os
 import queue
@@ -15,7 +16,6 @@ from typing import Any
 MOST_BYTES = 8_000_000  # of lines that wait to be written
 GATHERED_SECONDS = 0.02
 END_SECONDS = 2.0  # that the last lines are waited for
-
 
 written = json.JSONEncoder(ensure_ascii=True, separators=(",", ":")).encode  # a value as a line of the log has it
 
@@ -99,6 +99,8 @@ class Journal:
 
 def open_log(path: str | None) -> int:
     """A descriptor that lines are appended to: that of a file, or standard output. Raises OSError."""
+    if path is None and sys.stdout is None:
+        raise OSError(errno.EBADF, "it is closed", "standard output")
     if path is None:
         return sys.stdout.fileno()
     return os.open(path, os.O_WRONLY | os.O_APPEND | os.O_CREAT | os.O_CLOEXEC, 0o640)

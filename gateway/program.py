@@ -54,6 +54,8 @@ class Program:
         self.process: asyncio.subprocess.Process | None = None
         self.is_ending = asyncio.Event()
         self.starts: list[float] = []
+        self.error = ""  # the last line of the program on standard error
+        self.in_vain = ""  # why it is not started again
 
     async def run(self) -> int:
         """Runs until the gateway ends it, or a new start would be in vain. Gives the exit status."""
@@ -62,36 +64,47 @@ class Program:
             self.starts.append(time.monotonic())
             status = await self.once()
             self.process = None
-            if self.is_ending.is_set() or status in FINAL:
+            if self.is_ending.is_set():
                 return status
-            if len(self.starts) >= MOST_STARTS:
-                self.tell(f"started {MOST_STARTS} times within {WITHIN_SECONDS:g} s: it is not started again")
+            if status in FINAL or len(self.starts) >= MOST_STARTS:
+                self.give_up(status)
                 return status
             with contextlib.suppress(TimeoutError):
                 await asyncio.wait_for(self.is_ending.wait(), AGAIN_SECONDS)
                 return status
             self.on_new()
 
+    def give_up(self, status: int) -> None:
+        """Says why the program is not started again."""
+        if status in FINAL:
+            told = f"the program ended with status {status}"
+        else:
+            told = f"the program ended {MOST_STARTS} times within {WITHIN_SECONDS:g} s, at last with status {status}"
+        self.in_vain = f"{told}: {self.error}" if self.error else told
+        self.tell("it is not started again")
+
     async def once(self) -> int:
         """One run of the program, whose lines go to the log."""
+        self.error = ""
         try:
             # In a session of its own, so that the keyboard's signals reach the gateway alone.
             self.process = await asyncio.create_subprocess_exec(
                 *with_end(self.path), "serve", self.module, stdin=asyncio.subprocess.DEVNULL,
                 stdout=asyncio.subprocess.PIPE, stderr=asyncio.subprocess.PIPE, start_new_session=True, limit=MOST_LINE)
         except OSError as fault:
-            self.tell(f"can't be started: {fault.strerror}")
+            self.error = f"can't be started: {fault.strerror}"
+            self.tell(self.error)
             return 72
         self.figures.count("program_starts")
         self.tell(f"started as process {self.process.pid}")
         if self.is_ending.is_set():
             self.signal(signal.SIGTERM)
-        await asyncio.gather(self.lines(self.process.stdout), self.lines(self.process.stderr))
+        await asyncio.gather(self.lines(self.process.stdout), self.lines(self.process.stderr, is_error=True))
         status = status_of(await self.process.wait())
         self.tell(f"ended with status {status}")
         return status
 
-    async def lines(self, stream: asyncio.StreamReader | None) -> None:
+    async def lines(self, stream: asyncio.StreamReader | None, *, is_error: bool = False) -> None:
         """Each line that the program prints is an event of the log."""
         while stream is not None:
             try:
@@ -100,7 +113,9 @@ class Program:
                 continue  # a line of more than MOST_LINE bytes, which the program has none of
             if not line:
                 return
-            self.tell(line.decode("ascii", "replace").rstrip("\n"))
+            told = line.decode("ascii", "replace").rstrip("\n")
+            self.error = told if is_error else self.error
+            self.tell(told)
 
     def tell(self, told: str) -> None:
         self.journal.event("program", told)

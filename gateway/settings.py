@@ -27,6 +27,7 @@ class Module:
 
     path: str
     header: int  # bytes before the command code
+    console: int  # the port of the console, to which nothing is passed on
     ports: tuple[int, ...]  # of the host lanes, lane 1 first
     accept: int  # connections that each lane accepts
 
@@ -64,7 +65,6 @@ class Limits:
     unread_seconds: float = 30.0
     keepalive_seconds: int = 30
     drain_seconds: float = 10.0
-    start_seconds: float = 10.0
 
 
 @dataclass(frozen=True)
@@ -139,7 +139,8 @@ def read_module(path: str) -> Module:
         if not isinstance(ports, list) or not 1 <= len(ports) <= 64 or not all(
                 is_integer(port, 1, 65535) for port in ports) or len(set(ports)) != len(ports):
             raise SettingsFault("key 'host_ports': 1 to 64 different integers of 1 to 65535 are wanted")
-        return Module(path, table.integer("header", 0, 255), tuple(ports), table.integer("accept", 1, 4096))
+        return Module(path, table.integer("header", 0, 255), table.integer("console_port", 1, 65535), tuple(ports),
+                      table.integer("accept", 1, 4096))
     except SettingsFault as fault:
         raise SettingsFault(f"{path}: {fault}") from None
 
@@ -187,7 +188,7 @@ def read_fault(table: "Table") -> FaultRule:
 
 
 def check_ports(settings: Settings) -> None:
-    """No port is named twice, and none is a lane's."""
+    """No port is named twice, and none is one of the module's."""
     listening = [*settings.listen, *(settings.tls.listen if settings.tls else ())]
     if not listening:
         raise SettingsFault("key 'listen': at least one address is wanted")
@@ -196,8 +197,9 @@ def check_ports(settings: Settings) -> None:
     for place, (host, port) in enumerate(listening):
         if (host, port) in listening[:place]:
             raise SettingsFault(f"{host} port {port} is named twice")
-        if host in ("127.0.0.1", "0.0.0.0") and port in settings.module.ports:
-            raise SettingsFault(f"{host} port {port} is a host port of the module")
+        if host in ("127.0.0.1", "0.0.0.0") and port in (settings.module.console, *settings.module.ports):
+            kind = "the console's port" if port == settings.module.console else "a host port"
+            raise SettingsFault(f"{host} port {port} is {kind} of the module")
 
 
 def is_integer(value: Any, least: int, most: int) -> bool:
@@ -246,7 +248,8 @@ class Table:
         return self.take(key, default, lambda value: isinstance(value, bool), "true or false")
 
     def text(self, key: str, default: Any = MISSING) -> Any:
-        return self.take(key, default, lambda value: isinstance(value, str) and value != "", "a text")
+        return self.take(key, default, lambda value: isinstance(value, str) and value != "" and "\0" not in value,
+                         "a text")
 
     def file(self, key: str, *, required: bool = True) -> Any:
         name = self.text(key, MISSING if required else None)
@@ -270,9 +273,10 @@ class Table:
         return Table(self.take(key, {}, lambda value: isinstance(value, dict), "a table"), f"{key}.", self.folder)
 
     def tables(self, key: str) -> list["Table"]:
+        """The tables of a list, which are numbered from 1 in what is told of them."""
         found = self.take(key, [], lambda value: (
             isinstance(value, list) and all(isinstance(each, dict) for each in value)), f"[[{key}]]")
-        return [Table(each, f"{key}.", self.folder) for each in found]
+        return [Table(each, f"{key}.{number}.", self.folder) for number, each in enumerate(found, 1)]
 
     def end(self) -> None:
         for key in self.values:

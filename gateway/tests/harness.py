@@ -31,15 +31,16 @@ STAND_IN = os.path.join(TOP, "gateway", "tests", "stand_in.py")
 GATEWAY = os.path.join(TOP, "gateway", "gateway")
 PORTS = iter(range(*map(int, os.environ.get("GATEWAY_PORTS", f"{random.randrange(12_000, 30_000)} 32000").split())))
 HEADER = b"0001"
-MODULE = """version = 1
-header = 4
-officers = ["ba7816bf8f01cfea414140de5dae2223b00361a396177a9cb410ff61f20015ad",
-            "2cf24dba5fb0a30e26e83b2ac5b9e29e1b161e5c1fa7425e73043362938b9824"]
-lmk = "test"
-console_port = {}
-host_ports = {}
-accept = {}
-"""
+
+
+def module_text(console: int, hosts: list[int], accept: int, header: int = 4) -> str:
+    """The configuration of examples/laboratory.toml over other ports."""
+    with open(os.path.join(TOP, "examples", "laboratory.toml"), encoding="ascii") as file:
+        text = file.read()
+    for key, value in ("header", header), ("console_port", console), ("host_ports", hosts), ("accept", accept):
+        text, count = re.subn(f"^{key} = .*$", f"{key} = {value}", text, flags=re.MULTILINE)
+        assert count == 1
+    return text
 
 
 def need_program() -> None:
@@ -126,8 +127,7 @@ class Laboratory:
         self.lanes, self.ports = rest[:hosts], rest[hosts:]
         self.port = self.ports[0]
         self.log, self.seen = self.path("log"), self.path("seen")
-        self.write("module.toml", MODULE.format(self.console, self.lanes, accept).replace(
-            "header = 4", f"header = {header}"))
+        self.write("module.toml", module_text(self.console, self.lanes, accept, header))
         named = ", ".join(f'"127.0.0.1:{port}"' for port in self.ports)
         listen = "" if "listen =" in top else f"listen = [{named}]"
         start = f'program = "{program}"' if program else ""
@@ -277,6 +277,14 @@ file = "log"
         with open(self.seen, encoding="ascii") as file:
             found = [bytes.fromhex(line.split(" ")[1]) for line in file if line.endswith("\n")]
         return [each for each in found if each != b"B20000"]
+
+    def until_seen(self, text: bytes) -> None:
+        """Waits until a lane of the stand-in has read a message."""
+        self.until(lambda: text in self.seen_messages(), f"no lane read {text!r}")
+
+    def until_under_way(self, count: int) -> None:
+        """Waits until so many messages are under way, or more."""
+        self.until(lambda: self.health()["under_way"] >= count, f"{count} messages are not under way")
 
     @contextlib.contextmanager
     def peer(self, place: int = 0, **more: Any) -> Iterator[Peer]:

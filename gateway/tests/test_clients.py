@@ -1,5 +1,7 @@
 """Clients that come and go, vanish, stall, send halves, and do not read: none holds up another."""
+import os
 import random
+import resource
 import select
 import socket
 import threading
@@ -144,12 +146,22 @@ class Stalling(unittest.TestCase):
             texts = [b"!wait0700", b"!wait0700", *(b"%05d" % number for number in range(5000))]
             sender = threading.Thread(target=peer.put, args=map(echo, texts))
             sender.start()
-            laboratory.until(lambda: laboratory.health()["under_way"] > 2, "the messages are not under way")
+            laboratory.until_under_way(3)
             time.sleep(0.3)
             self.assertLessEqual(laboratory.health()["under_way"], 64)
             for text in texts:
                 self.assertEqual(peer.reply(), b"B300" + text)
             sender.join()
+
+    def test_few_bytes_under_way(self) -> None:
+        """Of many messages at once those are under way that reach `client_bytes`, and no more."""
+        with Laboratory(hosts=2, tables="[limits]\nclient_bytes = 1000") as laboratory, laboratory.peer() as peer:
+            texts = [b"!wait0300 %d" % number + bytes(388) for number in range(8)]
+            peer.put(*map(echo, texts))
+            laboratory.until_under_way(3)
+            time.sleep(0.1)
+            self.assertEqual(laboratory.health()["under_way"], 3)
+            self.assertEqual([peer.reply() for _ in texts], [b"B300" + text for text in texts])
 
     def test_a_client_that_vanishes(self) -> None:
         """Its machine is gone without a word; probes find that out."""
@@ -175,6 +187,8 @@ class Stalling(unittest.TestCase):
                     self.assertTrue(peer.is_ended())
             self.assertEqual(laboratory.seen_messages(), 2 * [echo(b"one")])
             self.assertEqual(laboratory.health()["lanes_serving"], 1)
+            self.assertEqual(laboratory.metric('clients_ended_total{cause="short frame"}'), 2)
+            laboratory.until_told("client", "a frame of the length 5, and the header and a command code have 6")
 
     def test_too_many_clients(self) -> None:
         with Laboratory(hosts=1, tables="[limits]\nclients = 3") as laboratory:
@@ -183,12 +197,32 @@ class Stalling(unittest.TestCase):
                 self.assertEqual(peer.asked(echo(b"in")), b"B300in")
             with laboratory.peer() as one_more:
                 self.assertTrue(one_more.is_ended())
+            self.assertEqual(laboratory.metric('clients_refused_total{cause="too many"}'), 1)
+            laboratory.until_told("refused", "there are 3 clients, and no more are let in")
             peers[0].close()
             laboratory.until(lambda: laboratory.health()["clients"] == 2, "a client is still there")
             with laboratory.peer() as again:
                 self.assertEqual(again.asked(echo(b"again")), b"B300again")
             for peer in peers[1:]:
                 peer.close()
+
+
+    def test_no_descriptor_is_left(self) -> None:
+        """No client is let in for a second, and that is told; those that are in are served, and others later."""
+        with Laboratory(hosts=1) as laboratory, laboratory.peer() as inside:
+            self.assertEqual(inside.asked(echo(b"in")), b"B300in")
+            assert laboratory.process is not None
+            pid = laboratory.process.pid
+            most = resource.prlimit(pid, resource.RLIMIT_NOFILE)
+            used = max(map(int, os.listdir(f"/proc/{pid}/fd"))) + 1
+            resource.prlimit(pid, resource.RLIMIT_NOFILE, (used, most[1]))
+            with laboratory.peer() as waiting:
+                waiting.put(echo(b"waits"))
+                laboratory.until_told("refused", "no client is let in for now: Too many open files")
+                self.assertEqual(inside.asked(echo(b"still")), b"B300still")
+                resource.prlimit(pid, resource.RLIMIT_NOFILE, most)
+                self.assertEqual(waiting.reply(), b"B300waits")
+            self.assertGreaterEqual(laboratory.metric('clients_refused_total{cause="no descriptor"}'), 1)
 
 
 def memory(laboratory: Laboratory) -> int:

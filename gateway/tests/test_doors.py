@@ -5,11 +5,22 @@ import ssl
 import subprocess
 import unittest
 
+from gateway import doors
 from gateway.tests.harness import WAIT, ClientError, Laboratory, Peer, echo, framed, free_ports, need
 
 
 class Addresses(unittest.TestCase):
     """Ports and addresses."""
+
+    def test_probes(self) -> None:
+        """A client is probed after `keepalive_seconds`, and ends after about twice as long without an answer."""
+        (port,) = free_ports(1)
+        with doors.opened(("127.0.0.1", port), 12) as door:
+            with socket.create_connection(("127.0.0.1", port), WAIT), door.accept()[0] as accepted:
+                self.assertNotEqual(accepted.getsockopt(socket.SOL_SOCKET, socket.SO_KEEPALIVE), 0)
+                found = [accepted.getsockopt(socket.IPPROTO_TCP, option) for option in (
+                    socket.TCP_KEEPIDLE, socket.TCP_KEEPINTVL, socket.TCP_KEEPCNT, socket.TCP_USER_TIMEOUT)]
+                self.assertEqual(found, [12, 4, 3, 24_000])
 
     def test_both_families_and_several_ports(self) -> None:
         first, second, third = free_ports(3)
@@ -117,6 +128,18 @@ class Tls(unittest.TestCase):
             context = ssl.create_default_context(cafile=laboratory.path("theirs.pem"))
             with Peer(self.tls) as peer, self.assertRaises(ssl.SSLCertVerificationError):
                 context.wrap_socket(peer.stream, server_hostname="127.0.0.1")
+
+    def test_the_end(self) -> None:
+        """On SIGTERM a client over TLS gets the reply to its message, and then the connection's end."""
+        with self.laboratory(clients=True) as laboratory, Peer(self.tls) as peer:
+            peer.stream = self.context(laboratory, "good").wrap_socket(peer.stream, server_hostname="127.0.0.1")
+            peer.put(echo(b"!wait0500"))
+            laboratory.until_under_way(1)
+            assert laboratory.process is not None
+            laboratory.process.terminate()
+            self.assertEqual(peer.reply(), b"B300!wait0500")
+            self.assertTrue(peer.is_ended())
+            self.assertEqual(laboratory.process.wait(WAIT), 143)
 
     def test_a_client_that_stalls_in_its_handshake(self) -> None:
         with self.laboratory(clients=True) as laboratory, Peer(self.tls) as stalled:

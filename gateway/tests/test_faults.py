@@ -44,6 +44,7 @@ class Acts(unittest.TestCase):
                 lambda: len(laboratory.messages()) == 2 and laboratory.messages(), "no two lines"),
                 key=lambda line: line["command"])
             self.assertEqual((line["command"], line["fault"]), ("B2", "delay"))
+            self.assertEqual(laboratory.metric('messages_changed_total{act="delay"}'), 1)
 
     def test_refuse_and_code(self) -> None:
         rules = 'act = "refuse"\ncommand = "NC"\n[[fault]]\nact = "code"\ncommand = "NO"\ncode = "41"'
@@ -61,12 +62,18 @@ class Acts(unittest.TestCase):
             self.assertEqual(peer.reply(), b"B300!wait0200")
             self.assertTrue(peer.is_ended())
             self.assertNotIn(b"NC", laboratory.seen_messages())
+            self.assertEqual(laboratory.metric('messages_lost_total{cause="a rule drops it"}'), 1)
+            self.assertEqual(laboratory.metric('messages_changed_total{act="drop"}'), 1)
 
     def test_silence(self) -> None:
         with self.laboratory('act = "silence"\ncommand = "NC"') as laboratory, laboratory.peer() as peer:
             peer.put(b"NC", echo(b"behind"))
             self.assertEqual(peer.reply(), b"B300behind")
             self.assertEqual(laboratory.seen_messages(), [echo(b"behind")])
+            self.assertEqual(laboratory.metric('messages_changed_total{act="silence"}'), 1)
+            (line,) = [line for line in laboratory.until(
+                lambda: len(laboratory.messages()) == 2 and laboratory.messages(), "no two lines") if line["code"] is None]
+            self.assertEqual((line["command"], line["lane"], line["fault"]), ("NC", 0, "silence"))
 
     def test_a_share(self) -> None:
         rule = 'act = "code"\ncommand = "B2"\nshare = 0.3\ncode = "99"'

@@ -1,6 +1,9 @@
 """Lanes that end, do not answer, or are used up."""
 import socket
 import unittest
+import urllib.error
+import urllib.request
+from collections import Counter
 
 from gateway.tests.harness import HEADER, WAIT, Laboratory, Peer, echo
 
@@ -14,6 +17,31 @@ class SlowPeer(Peer):
         self.stream.setsockopt(socket.SOL_SOCKET, socket.SO_RCVBUF, 4096)
         self.stream.settimeout(WAIT)
         self.stream.connect(("127.0.0.1", port))
+
+
+class Choice(unittest.TestCase):
+    """The lane that a message is given to."""
+
+    def test_the_lane_with_the_fewest_under_way(self) -> None:
+        with Laboratory(hosts=3) as laboratory, laboratory.peer() as slow, laboratory.peer() as peer:
+            slow.put(echo(b"!wait1500"))
+            laboratory.until_under_way(1)
+            # No message waits behind the slow one while other lanes have fewer.
+            for number in range(20):
+                self.assertEqual(peer.asked(echo(b"%d" % number)), b"B300%d" % number)
+            self.assertEqual(laboratory.health()["under_way"], 1)
+            # Of twenty at once each lane has seven in the end, the slow one six of them.
+            texts = [b"!wait0100 %d" % number for number in range(20)]
+            peer.put(*map(echo, texts))
+            self.assertEqual([peer.reply() for _ in texts], [b"B300" + text for text in texts])
+            self.assertEqual(slow.reply(), b"B300!wait1500")
+            lines = laboratory.until(
+                lambda: len(laboratory.messages()) == 41 and laboratory.messages(), "lines are wanting")
+            held = next(line["lane"] for line in lines if line["micros"] > 1_400_000 and line["client"].endswith(
+                f":{slow.stream.getsockname()[1]}"))
+            early, late = lines[:20], lines[20:]
+            self.assertNotIn(held, [line["lane"] for line in early])
+            self.assertEqual(Counter(line["lane"] for line in late), {1: 7, 2: 7, 3: 7})
 
 
 class Ending(unittest.TestCase):
@@ -36,6 +64,10 @@ class Ending(unittest.TestCase):
             laboratory.until_serving()
             self.assertEqual(laboratory.health()["connections_left"], 3 * 15 - 1)
             self.assertEqual(laboratory.metric('messages_lost_total{cause="the lane ended"}'), 1)
+            self.assertEqual(laboratory.metric("lanes_lost_total"), 1)
+            (line,) = [line for line in laboratory.messages() if line["code"] is None]
+            self.assertEqual((line["command"], line["lost"]), ("B2", "the lane ended"))
+            self.assertIn(line["lane"], (1, 2, 3))
 
     def test_replies_before_the_lost_one(self) -> None:
         """Those that were sent before are answered first, though other lanes have them."""
@@ -79,14 +111,22 @@ class Ending(unittest.TestCase):
         limits = "[limits]\nwait_seconds = 0.7\nlane_messages = 1"
         with Laboratory(hosts=1, tables=limits) as laboratory, laboratory.peer() as slow, laboratory.peer() as peer:
             slow.put(echo(b"!wait2000"))
-            laboratory.until(lambda: laboratory.health()["under_way"], "the message is not under way")
+            laboratory.until_under_way(1)
             peer.put(echo(b"late"))
+            with laboratory.peer() as gone:
+                gone.put(echo(b"gone"))
+                laboratory.until_under_way(3)
+                self.assertEqual(laboratory.metric('lane_under_way{lane="1"}'), 1)
+                self.assertEqual(laboratory.metric("waiting_messages"), 2)
+                gone.reset()
             self.assertTrue(peer.is_ended())
             self.assertEqual(slow.reply(), b"B300!wait2000")
-            lost = [line for line in laboratory.messages() if line["code"] is None]
-            self.assertEqual([(line["command"], line["lost"]) for line in lost], [
-                ("B2", "no lane had room for it in time")])
-            self.assertNotIn(echo(b"late"), laboratory.seen_messages())
+            lost = {line["lost"]: line["command"] for line in laboratory.messages() if line["code"] is None}
+            causes = "no lane had room for it in time", "the client had gone"
+            self.assertEqual(lost, dict.fromkeys(causes, "B2"))
+            for cause in causes:
+                self.assertEqual(laboratory.metric(f'messages_lost_total{{cause="{cause}"}}'), 1)
+            self.assertEqual(laboratory.seen_messages(), [echo(b"!wait2000")])
 
 
 class UsedUp(unittest.TestCase):
@@ -133,6 +173,11 @@ class UsedUp(unittest.TestCase):
         """It is waited for, and another one after it counts anew, though all connections were used up."""
         with Laboratory(hosts=1, accept=1, program=None, is_served=False) as laboratory:
             laboratory.start()
+            self.assertFalse(laboratory.until(laboratory.health, "no answer")["serving"])
+            with self.assertRaises(urllib.error.HTTPError) as caught:
+                urllib.request.urlopen(f"http://127.0.0.1:{laboratory.watch}/health", timeout=WAIT)
+            self.assertEqual(caught.exception.code, 503)
+            caught.exception.close()
             for _ in range(2):
                 with laboratory.module():
                     laboratory.until_serving()

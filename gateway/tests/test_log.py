@@ -1,5 +1,7 @@
 """The log and the metrics: what they say of each message, and what they never say."""
+import calendar
 import re
+import time
 import unittest
 
 from gateway.figures import BOUNDS, Figures
@@ -48,9 +50,20 @@ class Lines(unittest.TestCase):
             self.assertEqual((good["client"], good["command"], good["code"]), (name, "NC", "00"))
             self.assertIn(good["lane"], (1, 2))
             self.assertIsInstance(good["micros"], int)
+            self.assertLess(abs(calendar.timegm(time.strptime(good["time"][:19], "%Y-%m-%dT%H:%M:%S")) - time.time()), 60)
             self.assertRegex(good["time"], r"^20\d\d-\d\d-\d\dT\d\d:\d\d:\d\d\.\d{6}Z$")
             self.assertEqual((bad["command"], bad["code"], bad["check"], bad["refusal"], bad["unknown"]), (
                 "other", "68", "command", "no such command", "QQ"))
+
+    def test_the_time_a_message_took(self) -> None:
+        with Laboratory(hosts=1) as laboratory, laboratory.peer() as peer:
+            began = time.monotonic()
+            self.assertEqual(peer.asked(echo(b"!wait0200")), b"B300!wait0200")
+            most = (time.monotonic() - began) * 1_000_000
+            (line,) = laboratory.until(laboratory.messages, "no line")
+            self.assertTrue(200_000 <= line["micros"] <= most, line)
+            self.assertGreaterEqual(laboratory.metric('message_seconds_sum{command="B2"}'), 0.2)
+            self.assertEqual(laboratory.metric('message_seconds_bucket{command="B2",le="0.1"}'), 0)
 
     def test_secrets(self) -> None:
         with Laboratory(hosts=2) as laboratory:
@@ -61,6 +74,7 @@ class Lines(unittest.TestCase):
                     self.assertNotIn(part, told)
             for line in laboratory.messages():
                 self.assertRegex(line.get("unknown", "AA"), "^[A-Z]{2}$")
+            self.assertEqual(laboratory.metric('clients_ended_total{cause="cut"}'), 1)
 
     def test_texts_where_the_switch_says_so(self) -> None:
         with Laboratory(hosts=2, tables="texts = true") as laboratory:
@@ -84,7 +98,7 @@ class Lines(unittest.TestCase):
             with laboratory.peer() as peer:
                 for _ in range(60):
                     self.assertEqual(peer.asked(echo(data)), b"B300" + data)
-            self.assertGreater(laboratory.metric("log_lines_lost"), 0)
+            self.assertGreater(laboratory.metric("log_lines_lost_total"), 0)
             self.assertEqual(laboratory.stopped(), 143)
 
 

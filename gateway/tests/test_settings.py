@@ -1,4 +1,5 @@
 """The configuration, and what the gateway says where it does not start."""
+import json
 import os
 import shutil
 import socket
@@ -6,9 +7,10 @@ import subprocess
 import sys
 import tempfile
 import unittest
+from typing import Any
 
 from gateway import settings
-from gateway.tests.harness import GATEWAY, MODULE, STAND_IN, TOP, WAIT, free_ports, need
+from gateway.tests.harness import GATEWAY, STAND_IN, TOP, WAIT, free_ports, module_text, need
 
 GOOD = """version = 1
 module = "module.toml"
@@ -41,17 +43,19 @@ WRONG = [
     ("127.0.0.1:1600", "127.0.0.1:70000",
      "key 'listen': a list of texts such as 127.0.0.1:1600 or [::1]:1600 is wanted"),
     ("127.0.0.1:1600", "127.0.0.1:1501", "127.0.0.1 port 1501 is a host port of the module"),
+    ("127.0.0.1:1600", "0.0.0.0:1500", "0.0.0.0 port 1500 is the console's port of the module"),
     ("127.0.0.1:1600", "127.0.0.1:9464", "127.0.0.1 port 9464 is named twice"),
+    ("module.toml", "module\\u0000", "key 'module': a text is wanted"),
     ('["127.0.0.1:1600", "[::1]:1601"]', "[]", "key 'listen': at least one address is wanted"),
     ("192.0.2.0/24", "192.0.2.1/24", "key 'allow': a list of addresses or networks such as 192.0.2.0/24 is wanted"),
     ("clients = 20", "clients = 0", "key 'limits.clients': an integer of 1 to 20000 is wanted"),
     ("clients = 20", "client = 20", "no key 'limits.client' is known"),
     ("= 0.5", "= 0", "key 'limits.half_frame_seconds': a number of 0.05 to 3600 is wanted"),
     ("texts = true", "texts = 1", "key 'log.texts': true or false is wanted"),
-    ('"delay"', '"wait"', "key 'fault.act': one of delay, refuse, silence, drop, code is wanted"),
-    ("milliseconds = 100", "", "key 'fault.milliseconds': an integer of 1 to 600000 is wanted"),
-    ('command = "CA"', 'command = "CAA"', "key 'fault.command': two printable characters are wanted"),
-    ("0.25", "1.25", "key 'fault.share': a number of 0 to 1 is wanted"),
+    ('"delay"', '"wait"', "key 'fault.1.act': one of delay, refuse, silence, drop, code is wanted"),
+    ("milliseconds = 100", "", "key 'fault.1.milliseconds': an integer of 1 to 600000 is wanted"),
+    ('command = "CA"', 'command = "CAA"', "key 'fault.1.command': two printable characters are wanted"),
+    ("0.25", "1.25", "key 'fault.1.share': a number of 0 to 1 is wanted"),
     ("milliseconds = 100", "milliseconds = 100\n[tls]\ncertificate = 'a'",
      "key 'tls.listen': a list of texts such as 127.0.0.1:1600 or [::1]:1600 is wanted")]
 
@@ -62,7 +66,7 @@ class Reading(unittest.TestCase):
     def setUp(self) -> None:
         self.folder = tempfile.TemporaryDirectory()
         self.addCleanup(self.folder.cleanup)
-        self.write("module.toml", MODULE.format(1500, [1501, 1502], 8))
+        self.write("module.toml", module_text(1500, [1501, 1502], 8))
 
     def write(self, name: str, text: str) -> str:
         path = os.path.join(self.folder.name, name)
@@ -73,7 +77,7 @@ class Reading(unittest.TestCase):
     def test_a_good_one(self) -> None:
         found = settings.read(self.write("good.toml", GOOD))
         self.assertEqual(found.module.ports, (1501, 1502))
-        self.assertEqual((found.module.header, found.module.accept), (4, 8))
+        self.assertEqual((found.module.header, found.module.console, found.module.accept), (4, 1500, 8))
         self.assertEqual(found.listen, (("127.0.0.1", 1600), ("::1", 1601)))
         self.assertEqual((found.limits.clients, found.limits.half_frame_seconds, found.limits.messages), (20, 0.5, 64))
         self.assertEqual(found.faults, (settings.FaultRule("delay", "CA", 0.25, 100),))
@@ -94,54 +98,98 @@ class Reading(unittest.TestCase):
 
     # The command
 
-    def ended(self, *words: str) -> tuple[int, str]:
-        """The exit status of the command with these words, and its line on standard error."""
+    def run_with(self, *words: str, **more: Any) -> tuple[int, str, str]:
+        """The exit status of the command with these words, and what it prints."""
         done = subprocess.run([sys.executable, "-B", GATEWAY, *words], stdin=subprocess.DEVNULL, capture_output=True,
-                              timeout=WAIT, check=False, text=True)
-        self.assertEqual(done.stdout, "")
-        return done.returncode, done.stderr
+                              timeout=WAIT, check=False, text=True, **more)
+        return done.returncode, done.stdout, done.stderr
+
+    def ended(self, *words: str) -> tuple[int, str]:
+        """The exit status and the line on standard error, where nothing else is printed."""
+        status, output, error = self.run_with(*words)
+        self.assertEqual(output, "")
+        return status, error
 
     def small(self, more: str = "", listen: int = 0) -> str:
         port = listen or free_ports(1)[0]
         return self.write("small.toml", f'version = 1\nmodule = "module.toml"\nlisten = ["127.0.0.1:{port}"]\n{more}')
 
     def test_words(self) -> None:
-        for words in [], ["-h"], ["a", "b"], [""]:
-            self.assertEqual(self.ended(*words), (64, "usage: gateway CONFIG\n"))
+        told = "usage: gateway CONFIG, or gateway --check CONFIG; gateway --help says more\n"
+        for words in [], ["-c"], ["a", "b"], [""], ["--check"], ["--check", "-c"], ["--check", "a", "b"], ["--help", "a"]:
+            self.assertEqual(self.ended(*words), (64, told), words)
+
+    def test_help(self) -> None:
+        """It names the keys and the tables of the configuration, and the exit statuses."""
+        for word in "--help", "-h":
+            status, output, error = self.run_with(word)
+            self.assertEqual((status, error), (0, ""))
+            for told in ("usage: gateway CONFIG\n", "version", "module", "listen", "program", "watch_port", "allow",
+                         "fault_seed", "[tls]", "[log]", "[limits]", "[[fault]]", "64", "66", "69", "72", "73", "78"):
+                self.assertIn(told, output)
+            self.assertLessEqual(max(map(len, output.splitlines())), 80)
+
+    def test_check(self) -> None:
+        """A configuration is read whole, and nothing is opened: neither its log nor its port, which is in use."""
+        with socket.socket() as taken:
+            taken.bind(("127.0.0.1", 0))
+            taken.listen()
+            name = self.small('[log]\nfile = "log"', listen=taken.getsockname()[1])
+            self.assertEqual(self.run_with("--check", name), (0, "OK 2\n", ""))
+        self.assertFalse(os.path.exists(os.path.join(self.folder.name, "log")))
+        self.assertEqual(self.ended("--check", self.small("x = 1")), (78, "gateway: no key 'x' is known\n"))
+        self.assertEqual(self.ended("--check", self.small('program = "no_such_program"')), (
+            72, "gateway: no program no_such_program\n"))
 
     def test_files(self) -> None:
-        missing = os.path.join(self.folder.name, "missing")
+        missing, listen = os.path.join(self.folder.name, "missing"), free_ports(1)[0]
         self.assertEqual(self.ended(missing), (66, f"gateway: {missing}: No such file or directory\n"))
-        tls = f'[tls]\nlisten = ["127.0.0.1:{free_ports(1)[0]}"]\ncertificate = "missing"\nkey = "missing"\n'
+        tls = f'[tls]\nlisten = ["127.0.0.1:{listen}"]\ncertificate = "missing"\nkey = "missing"\n'
         self.assertEqual(self.ended(self.small(tls)), (66, f"gateway: {missing}: No such file or directory\n"))
         self.write("missing", "no certificate")
-        self.assertEqual(self.ended(self.small(tls))[0], 78)
+        status, error = self.ended(self.small(tls))
+        self.assertEqual(status, 78)
+        self.assertRegex(error, "^gateway: key 'tls': the certificate, its key or those of clients don't read: .*\n$")
         self.assertEqual(self.ended(self.small('[log]\nfile = "missing/log"')), (
             73, f"gateway: {missing}/log: Not a directory\n"))
+        self.assertEqual(self.ended(self.folder.name), (66, f"gateway: {self.folder.name}: Is a directory\n"))
+        closed = subprocess.run(["sh", "-c", 'exec "$0" "$@" >&-', sys.executable, "-B", GATEWAY, self.small()],
+                                stderr=subprocess.PIPE, timeout=WAIT, check=False)
+        self.assertEqual((closed.returncode, closed.stderr), (73, b"gateway: standard output: it is closed\n"))
 
     def test_configuration(self) -> None:
         self.assertEqual(self.ended(self.small("x = 1")), (78, "gateway: no key 'x' is known\n"))
+        self.assertEqual(self.ended(self.small(listen=1502)), (
+            78, "gateway: 127.0.0.1 port 1502 is a host port of the module\n"))
+        name = self.small("watch_port = 1601", listen=1601)
+        self.assertEqual(self.ended(name), (78, "gateway: 127.0.0.1 port 1601 is named twice\n"))
+        module = self.write("module.toml", module_text(1500, [1501, 1502], 0))
+        self.assertEqual(self.ended(self.small()), (
+            78, f"gateway: {module}: key 'accept': an integer of 1 to 4096 is wanted\n"))
 
     def test_port_in_use(self) -> None:
         with socket.socket() as taken:
             taken.bind(("127.0.0.1", 0))
             taken.listen()
             port = taken.getsockname()[1]
-            self.assertEqual(self.ended(self.small(listen=port)), (
-                69, f"gateway: 127.0.0.1 port {port} can't be listened on: Address already in use\n"))
+            for name in self.small(listen=port), self.small(f"watch_port = {port}"):
+                self.assertEqual(self.ended(name), (
+                    69, f"gateway: 127.0.0.1 port {port} can't be listened on: Address already in use\n"))
 
     def test_no_program(self) -> None:
         self.assertEqual(self.ended(self.small('program = "no_such_program"')), (
             72, "gateway: no program no_such_program\n"))
 
     def test_the_programs_status(self) -> None:
-        """A program that refuses its configuration is not started again."""
+        """A program that refuses its configuration is not started again, and its line is told."""
         self.write("refuses", "#!/bin/sh\necho 'hsm: rule 6' >&2\nexit 4\n")
         os.chmod(os.path.join(self.folder.name, "refuses"), 0o755)
-        status, told = self.log_of('program = "./refuses"')
-        self.assertEqual(status, 4)
-        self.assertIn('"told":"hsm: rule 6"', told)
-        self.assertIn('"told":"ended with status 4"', told)
+        name = self.small('program = "./refuses"\n[log]\nfile = "log"')
+        self.assertEqual(self.ended(name), (4, "gateway: the program ended with status 4: hsm: rule 6\n"))
+        with open(os.path.join(self.folder.name, "log"), encoding="utf-8") as file:
+            told = [json.loads(line)["told"] for line in file]
+        self.assertEqual(told[-5:], ["hsm: rule 6", "ended with status 4", "it is not started again",
+                                     "takes no more messages", "ends with status 4"])
 
     def test_the_packed_file(self) -> None:
         """The gateway as one file, and the program beside it."""
@@ -154,14 +202,8 @@ class Reading(unittest.TestCase):
         os.chmod(os.path.join(self.folder.name, "beside"), 0o755)
         name = self.small('program = "beside"')
         done = subprocess.run([packed, name], capture_output=True, timeout=WAIT, check=False)
-        self.assertEqual((done.returncode, done.stderr), (4, b""))
+        self.assertEqual((done.returncode, done.stderr), (4, b"gateway: the program ended with status 4\n"))
         self.assertIn(b'"told":"ended with status 4"', done.stdout)
-
-    def log_of(self, more: str) -> tuple[int, str]:
-        name = self.small(f'{more}\n[log]\nfile = "log"')
-        status = self.ended(name)[0]
-        with open(os.path.join(self.folder.name, "log"), encoding="utf-8") as file:
-            return status, file.read()
 
 
 class Examples(unittest.TestCase):
