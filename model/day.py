@@ -3,7 +3,7 @@
 
     model/day.py script     examples/day.script
     model/day.py output     examples/day.output, what it prints under the test set with two host lanes
-    model/day.py table      the day as docs/COMMANDS.md has it
+    model/day.py table      the day as docs/SCRIPTS.md has it
 
 The header is 0001, the seed 32 zero bytes, the officers' words are abc and hello. The answers are those of
 hsm_model.py. It needs the command openssl. Nothing of the crates is used.
