@@ -68,7 +68,9 @@ impl<'a> Link for Client<'a> {
         if !self.slow {
             self.progress.look_for(&self.progress.writing);
         }
-        let rest = self.input.get(self.at..).unwrap_or(&[]);
+        let Some(rest) = self.input.get(self.at..) else {
+            return Got::End;
+        };
         let count = rest.len().min(room.len());
         if count == 0 {
             return Got::End;
