@@ -214,8 +214,8 @@ class Stalling(unittest.TestCase):
             assert laboratory.process is not None
             pid = laboratory.process.pid
             most = resource.prlimit(pid, resource.RLIMIT_NOFILE)
-            used = max(map(int, os.listdir(f"/proc/{pid}/fd"))) + 1
-            resource.prlimit(pid, resource.RLIMIT_NOFILE, (used, most[1]))
+            used = set(map(int, os.listdir(f"/proc/{pid}/fd")))
+            resource.prlimit(pid, resource.RLIMIT_NOFILE, (min(set(range(len(used) + 1)) - used), most[1]))
             with laboratory.peer() as waiting:
                 waiting.put(echo(b"waits"))
                 laboratory.until_told("refused", "no client is let in for now: Too many open files")

@@ -119,6 +119,7 @@ class Tls(unittest.TestCase):
                 self.assertEqual(peer.asked(echo(b"plain")), b"B300plain")
             self.assertEqual(self.asked(laboratory, "good"), wanted)
             self.assertEqual(laboratory.metric('clients_refused_total{cause="handshake"}'), 3)
+            self.assertEqual(laboratory.metric("clients_total"), 3)
             laboratory.until(lambda: laboratory.health()["clients"] == 0, "clients are left")
             laboratory.until(lambda: len(laboratory.seen_messages()) == 2 * 51 + 1, "messages are wanting, or too many")
 

@@ -71,8 +71,8 @@ class Acts(unittest.TestCase):
             self.assertEqual(peer.reply(), b"B300behind")
             self.assertEqual(laboratory.seen_messages(), [echo(b"behind")])
             self.assertEqual(laboratory.metric('messages_changed_total{act="silence"}'), 1)
-            (line,) = [line for line in laboratory.until(
-                lambda: len(laboratory.messages()) == 2 and laboratory.messages(), "no two lines") if line["code"] is None]
+            lines = laboratory.until(lambda: len(laboratory.messages()) == 2 and laboratory.messages(), "no two lines")
+            (line,) = [line for line in lines if line["code"] is None]
             self.assertEqual((line["command"], line["lane"], line["fault"]), ("NC", 0, "silence"))
 
     def test_a_share(self) -> None:

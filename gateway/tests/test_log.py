@@ -50,7 +50,8 @@ class Lines(unittest.TestCase):
             self.assertEqual((good["client"], good["command"], good["code"]), (name, "NC", "00"))
             self.assertIn(good["lane"], (1, 2))
             self.assertIsInstance(good["micros"], int)
-            self.assertLess(abs(calendar.timegm(time.strptime(good["time"][:19], "%Y-%m-%dT%H:%M:%S")) - time.time()), 60)
+            moment = calendar.timegm(time.strptime(good["time"][:19], "%Y-%m-%dT%H:%M:%S"))
+            self.assertLess(abs(moment - time.time()), 60)
             self.assertRegex(good["time"], r"^20\d\d-\d\d-\d\dT\d\d:\d\d:\d\d\.\d{6}Z$")
             self.assertEqual((bad["command"], bad["code"], bad["check"], bad["refusal"], bad["unknown"]), (
                 "other", "68", "command", "no such command", "QQ"))

@@ -1,9 +1,12 @@
 """Which check and which field the log names for a refusal."""
+import contextlib
 import os
 import re
 import shutil
 import sys
 import unittest
+from typing import Any, Callable
+from unittest import mock
 
 from gateway.app import read_table
 from gateway.tests.harness import TOP
@@ -78,25 +81,86 @@ class Words(unittest.TestCase):
         """Of each message that the model refuses, the right check of its order is told, and no text of a field."""
         if not shutil.which("openssl"):
             self.skipTest("no openssl")
-        sys.path.insert(0, os.path.join(TOP, "model"))
-        import data_rows
-        import key_rows
-        import pin_rows
         checks = {"68": {"command"}, "04": {"fields"}, "05": {"fields"}, "23": {"fields"}, "15": {"fields", "end"},
                   "26": {"fields", "keys"}, "27": {"keys"}, "10": {"keys"}, "11": {"keys"}, "29": {"type"},
                   "75": {"parts"}, "17": {"activity"}, "25": {"data"}, "20": {"data"}, "24": {"data"}, "14": {"data"},
                   "80": {"data"}, "01": {"comparison"}}
         refusals, seen = read_table(), 0
-        for group in [group for rows in (key_rows, pin_rows, data_rows) for group in rows.GROUPS.values()]:
-            for text, answer in group().cases:
-                message, code = text.decode("latin-1"), answer[2:4].decode("latin-1")
-                if code == "00":
-                    continue
-                found = refusals.explain(message, code)
-                seen += 1
-                self.assertIn(found.check, checks[code], (message, code, found))
-                self.assertIsNone(re.search("[0-9A-F]{8}", found.words), (message, found))
+        for message, answer in model_messages():
+            code = answer[2:4]
+            if code == "00":
+                continue
+            found = refusals.explain(message, code)
+            seen += 1
+            self.assertIn(found.check, checks[code], (message, code, found))
+            self.assertIsNone(re.search("[0-9A-F]{8}", found.words), (message, found))
         self.assertGreater(seen, 200)
+
+    def test_the_models_fields(self) -> None:
+        """The field that is told is the one at which the model stops: of its reading, its keys, its PIN block."""
+        if not shutil.which("openssl"):
+            self.skipTest("no openssl")
+        refusals, kinds = read_table(), set()
+        with Watched() as watched:
+            for message, _ in model_messages():
+                code = watched.host(message)[2:4]
+                found = refusals.explain(message, code) if code != "00" else None
+                if found and (wanted := watched.field(message) if found.check != "fields" else watched.read):
+                    self.assertEqual(found.field, wanted, (message, code, found))
+                    kinds.add((message[:2], code, found.field))
+        self.assertGreater(len(kinds), 60)
+
+
+def model_messages() -> list[tuple[str, str]]:
+    """The messages that the scripts of model/ print, and their answers."""
+    sys.path.insert(0, os.path.join(TOP, "model"))
+    import data_rows
+    import key_rows
+    import pin_rows
+    return [(message.decode("latin-1"), answer.decode("latin-1")) for rows in (key_rows, pin_rows, data_rows)
+            for group in rows.GROUPS.values() for message, answer in group().cases]
+
+
+class Watched:
+    """The model, of which is seen where it stops: the last field that it read, and the text that a call refused."""
+
+    def __enter__(self) -> "Watched":
+        sys.path.insert(0, os.path.join(TOP, "model"))
+        import hsm_model
+        self.model, self.hsm, self.held = hsm_model, hsm_model.Hsm(), contextlib.ExitStack()
+        self.read, self.text = 0, ""
+        pattern_of = hsm_model.pattern_of
+
+        def reading(form: str, texts: list[str]) -> tuple[str, str]:
+            self.read = len(texts) + 1
+            return pattern_of(form, texts)
+
+        self.held.enter_context(mock.patch.object(hsm_model, "pattern_of", reading))
+        for name, place in ("lmk_key", 1), ("pin_under", 1), ("pin_under_lmk", 0):
+            self.held.enter_context(mock.patch.object(self.hsm, name, self.watching(getattr(self.hsm, name), place)))
+        return self
+
+    def __exit__(self, *_: object) -> None:
+        self.held.close()
+
+    def watching(self, call: Callable[..., Any], place: int) -> Callable[..., Any]:
+        """A call of the model, with its argument at this place kept where it refuses."""
+        def watched(*given: Any, **named: Any) -> Any:
+            try:
+                return call(*given, **named)
+            except self.model.Refused:
+                self.text = given[place]
+                raise
+        return watched
+
+    def host(self, message: str) -> str:
+        self.read, self.text = 0, ""
+        return self.hsm.host(message.encode("latin-1")).decode("latin-1")
+
+    def field(self, message: str) -> int:
+        """The number of the field whose text was refused; 0 where no call refused one, or two fields have this text."""
+        texts, _ = self.model.read_fields(self.model.FIELDS[message[:2]], message[2:], False) if self.text else ([], "")
+        return texts.index(self.text) + 1 if texts.count(self.text) == 1 else 0
 
 
 if __name__ == "__main__":

@@ -116,7 +116,7 @@ class Reading(unittest.TestCase):
 
     def test_words(self) -> None:
         told = "usage: gateway CONFIG, or gateway --check CONFIG; gateway --help says more\n"
-        for words in [], ["-c"], ["a", "b"], [""], ["--check"], ["--check", "-c"], ["--check", "a", "b"], ["--help", "a"]:
+        for words in [], ["-c"], ["a", "b"], [""], ["--check"], ["--check", "-c"], ["--check", "a", "b"], ["-h", "a"]:
             self.assertEqual(self.ended(*words), (64, told), words)
 
     def test_help(self) -> None:
