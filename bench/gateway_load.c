@@ -18,13 +18,9 @@
 #include <time.h>
 #include <unistd.h>
 
-enum { MOST = 4096, ROOM = 1 << 20, HELD = 4096, EVENTS = 256 };
+#include "frames.h"
 
-typedef struct {
-    int count;
-    const unsigned char *at[MOST];
-    int size[MOST];
-} Frames;
+enum { HELD = 4096, EVENTS = 256 };
 
 typedef struct {
     int number, port, to, count; // count: bytes of the reply that were read
@@ -37,24 +33,6 @@ static Frames messages, answers;
 static int events_of;
 static uint32_t *micros;
 static long answered;
-
-static int read_frames(const char *name, Frames *frames)
-{
-    unsigned char *bytes = malloc(ROOM);
-    FILE *file = fopen(name, "rb");
-    const long size = file && bytes ? (long)fread(bytes, 1, ROOM, file) : 0;
-    for (long at = 0; at + 2 <= size && frames->count < MOST;) {
-        const int length = 2 + (bytes[at] << 8 | bytes[at + 1]);
-        if (at + length > size || length > HELD)
-            return 0;
-        frames->at[frames->count] = bytes + at;
-        frames->size[frames->count++] = length;
-        at += length;
-    }
-    if (file)
-        fclose(file);
-    return frames->count > 0;
-}
 
 static double now(void)
 {
