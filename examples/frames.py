@@ -208,7 +208,9 @@ def readable_line(text, header, commands):
     if message is None or len(message) < 2 or digits(piece) != text.partition(" ")[2]:
         return f"{word} ={text.partition(' ')[2]}"
     texts, rest = message_fields(commands[message[:2]], message[2:]) if message[:2] in commands else ([], message[2:])
-    return " ".join([word, *(readable(field) for field in [message[:2], *texts, rest] if field)])
+    lmk_set = rest[:3] if re.match("%[0-9][0-9]", rest) else ""
+    parts = [message[:2], *texts, lmk_set, rest[len(lmk_set):]]
+    return " ".join([word, *(readable(part) for part in parts if part)])
 
 
 def readable_answer(text, header, commands, meanings):

@@ -22,7 +22,8 @@ FORMS = {
     "12V": ("|".join(f"{HEX}{{{count}}}N{HEX}{{{11 - count}}}" for count in range(12)), "15"),
     "0to1": ("[01]", "15"), "0to2": ("[012]", "15"), "0to3": ("[0-3]", "15"), "1or3": ("[13]", "15"),
     "count": (f"{HEX}{{4}}", "15"), "00": ("00", "15"), ";": (";", "15")}
-TRAILER = re.compile("(?:\x19.{0,32})?", re.DOTALL)
+# What follows the fields: the text of an LMK set or nothing, and a trailer or nothing.
+ENDING = re.compile("(?:%[0-9]{2})?((?:\x19.{0,32})?)", re.DOTALL)
 
 
 class TableFault(Exception):
@@ -124,7 +125,7 @@ def read_message(command: Command, text: str) -> Reading:
             return Reading(texts, number, code, len(text) < least_size(form, texts))
         texts.append(found[0])
         text = text[found.end():]
-    if not TRAILER.fullmatch(text):
+    if not ENDING.fullmatch(text):
         return Reading(texts, len(command.fields) + 1, "15")
     return Reading(texts)
 
@@ -144,7 +145,8 @@ def least_size(form: str, texts: list[str]) -> int:
 def trailer_of(command: Command, text: str) -> str:
     """The trailer behind the fields of a message that reads, or nothing."""
     reading = read_message(command, text)
-    return "" if reading.failed else text[sum(map(len, reading.texts)):]
+    found = None if reading.failed else ENDING.fullmatch(text[sum(map(len, reading.texts)):])
+    return found[1] if found else ""
 
 
 def parts_of(key: str) -> int:

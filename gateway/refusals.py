@@ -1,7 +1,7 @@
 """Which check of the module refused a message, and at which field, in words.
 
-The order of checks is that of docs/COMMANDS.md: the command, the fields, what follows them, the keys, the type, equal
-parts, activities, the data, the comparison. What stands in the clear in a message (forms, schemes, types) is looked at
+The order of checks is that of docs/COMMANDS.md: the command, the fields, what follows them, the LMK set, the keys, the
+type, equal parts, activities, the data, the comparison. What stands in the clear in a message (forms, schemes, types) is looked at
 anew; what only the module sees (a key's parity, a PIN) follows from the error code and the command. No text of a field
 stands in the words.
 """
@@ -70,6 +70,8 @@ class Refusals:
     def behind(self, command: Command, texts: list[str], code: str, meaning: str) -> Refusal | None:
         """The refusal of a message that reads."""
         name = command.code
+        if code == "13":
+            return Refusal("set", 0, meaning)
         if code in PARITY.get(name, {}):
             number = PARITY[name][code]
             words = "the key has a byte of even parity, as where the text is of another LMK set or key type"
@@ -119,7 +121,7 @@ def unread(command: Command, reading: Reading, meaning: str) -> Refusal:
     """The refusal of a field that does not stand, or of what follows the fields."""
     if reading.failed > len(command.fields):
         where = f"behind field {len(command.fields)}" if command.fields else "behind the command"
-        return Refusal("end", 0, f"{where}: something follows that is no trailer")
+        return Refusal("end", 0, f"{where}: something follows that is no LMK set and trailer")
     form = command.fields[reading.failed - 1].form
     words = meaning if reading.code != "15" else f"no text of the form {form}"
     if reading.is_short:

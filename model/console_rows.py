@@ -271,12 +271,11 @@ def quoted(lines):
     return '"' + "".join(text + "\\n" for text in lines) + '"'
 
 
-def main(names):
-    check_known()
-    check_worked()
+def print_scripts(groups, names):
+    """Prints the cases of groups of scripts, or the script or the output of one."""
     what = names.pop(0) if names and names[0] in ("cases", "script", "output") else "cases"
-    for name in names or GROUPS:
-        lines = GROUPS[name]()
+    for name in names or groups:
+        lines = groups[name]()
         script, output = lines.whole()
         if what != "cases":
             print(end=(script if what == "script" else output).decode())
@@ -288,4 +287,6 @@ def main(names):
 
 
 if __name__ == "__main__":
-    main(sys.argv[1:])
+    check_known()
+    check_worked()
+    print_scripts(GROUPS, sys.argv[1:])

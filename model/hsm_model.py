@@ -39,7 +39,8 @@ FORMS = {  # form: its text, and its error code where that is not 15
     "12F": ("|".join(f"[0-9]{{{n}}}F{{{12 - n}}}" for n in range(13)),),
     "12V": ("|".join(f"{HEX}{{{n}}}N{HEX}{{{11 - n}}}" for n in range(12)),),
     "0to1": ("[01]",), "0to2": ("[012]",), "0to3": ("[0-3]",), "1or3": ("[13]",), "count": (HEX + "{4}",),
-    "00": ("00",), ";": (";",), "word": (r"[!-~]{1,64}(?![^ ])",), "min": ("(?:0|[1-9][0-9]{0,2})(?![^ ])",),
+    "00": ("00",), ";": (";",), "[%nn]": ("%[0-9]{2}",),
+    "word": (r"[!-~]{1,64}(?![^ ])",), "min": ("(?:0|[1-9][0-9]{0,2})(?![^ ])",),
     "act": (r"[^ ]+(?![^ ])",), "act*": (r"[^ ]+(?![^ ])",)}
 
 FIELDS = {  # code: the forms of its fields; a condition stands before a colon
@@ -52,9 +53,10 @@ FIELDS = {  # code: the forms of its fields; a condition stands before a colon
     "M8": "0to3 0to2 0to1 1or3 0to3 mactype K mode23:16H count data mode03:mac", "B2": "count data", "NC": "",
     "NO": "00", "RA": ""}
 CONSOLE_FIELDS = {
-    "A": "act min word word", "C": "act*", "VA": "", "Q": "", "LOG": "", "GC": "type scheme",
-    "FK": "type scheme comp comp [comp]"}
-ACTIVITY = re.compile(rf"(generate|import|export|component|pin\.clear(?!\.[0-9]))(\.(?:{TYPE}))?(\.host|\.console)?")
+    "A": "act min word word", "C": "act*", "VA": "", "Q": "", "LOG": "", "GC": "type scheme [%nn]",
+    "FK": "type scheme comp comp [comp] [%nn]"}
+ACTIVITY = re.compile(
+    rf"(generate|import|export|component|pin\.clear(?!\.[0-9]))(\.(?:{TYPE}))?(\.host|\.console)?(\.lmk0[0-3])?")
 
 
 def pattern_of(form, texts):
@@ -89,7 +91,7 @@ def read_fields(forms, text, on_console):
     texts = []
     for entry in forms.split():
         condition, _, form = entry.rpartition(":")
-        if (condition and not is_present(condition, texts)) or (form == "[comp]" and not text):
+        if (condition and not is_present(condition, texts)) or is_left_out(form, text):
             texts.append("")
             continue
         pattern, code = pattern_of(form, texts)
@@ -101,6 +103,11 @@ def read_fields(forms, text, on_console):
     return texts, text
 
 
+def is_left_out(form, text):
+    """Whether a field of the console is left out before what is left."""
+    return (form == "[%nn]" and not text) or (form == "[comp]" and (not text or text.startswith(" %")))
+
+
 def console_stands(form, text):
     if form == "act*" and text == "*":
         return True
@@ -110,7 +117,7 @@ def console_stands(form, text):
 
 
 def read_activity(text):
-    """Category, type and place; a part that is not named is None."""
+    """Category, type, place and set; a part that is not named is None."""
     found = ACTIVITY.fullmatch(text)
     return tuple(part and part.lstrip(".") for part in found.groups()) if found else None
 
@@ -172,13 +179,24 @@ class Ledger:
 
 
 class Hsm:  # one method a command
-    """The module of an LMK set and its ledger. Messages are given and answered without header."""
+    """The module of an LMK set, or of several, and its ledger. Messages are given and answered without header."""
 
-    def __init__(self, lmks=SET_T, hosts=2, words=("abc", "hello")):
-        self.lmks, self.hosts = lmks, hosts
+    def __init__(self, lmks=SET_T, hosts=2, words=("abc", "hello"), others=()):
+        self.sets, self.hosts = (lmks, *others), hosts
+        self.name_set("")
         self.officers = [hashlib.sha256(word.encode()).digest() for word in words]
         self.ledger = Ledger()
         self.moment = 0
+
+    def name_set(self, text):
+        """The set that a message names by `%` and two digits is that of its keys and needs; it is set 00 else."""
+        self.named = int(text[1:] or "0")
+        if self.named >= len(self.sets):
+            raise Refused("13")
+        self.lmks = self.sets[self.named]
+
+    def need(self, category, code, place):
+        return category, code, place, f"lmk{self.named:02}"
 
     def host(self, message):
         """The answer of a host's message."""
@@ -191,9 +209,11 @@ class Hsm:  # one method a command
             if code not in FIELDS:
                 raise Refused("68")
             fields, rest = read_fields(FIELDS[code], rest, False)
-            if rest and not re.fullmatch("\x19.{0,32}", rest, re.DOTALL):
+            found = re.fullmatch("((?:%[0-9]{2})?)((?:\x19.{0,32})?)", rest, re.DOTALL)
+            if not found:
                 raise Refused("15")
-            trailer = rest
+            trailer = found[2]
+            self.name_set(found[1])
             answer = reply + "00" + getattr(self, code.lower())(*fields)
         except Refused as refused:
             answer = f"{reply}{refused}"
@@ -210,6 +230,7 @@ class Hsm:  # one method a command
             fields, rest = read_fields(CONSOLE_FIELDS[word], space + rest, True)
             if rest:
                 raise Refused("15")
+            self.name_set(fields.pop() if CONSOLE_FIELDS[word].endswith("[%nn]") else "")
             answer = " ".join(["OK", *getattr(self, "text_" + word.lower())(*fields)])
         except Refused as refused:
             answer = f"NO {refused}"
@@ -246,7 +267,7 @@ class Hsm:  # one method a command
         permits = [(act, PERMITS.get(code, "YYY")[ACTS[act]]) for act in acts]
         if any(permit == "N" for _, permit in permits):
             raise Refused("29")
-        return [(act, code, "host") for act, permit in permits if permit == "A"]
+        return [self.need(act, code, "host") for act, permit in permits if permit == "A"]
 
     def seal(self, code, scheme, key):
         return sealed(code, scheme, key, self.lmks)
@@ -362,14 +383,14 @@ class Hsm:  # one method a command
         return self.check_pvv(self.lmk_key("001", zpk, "10"), self.lmk_key("002", pair, "11"), *fields)
 
     def ba(self, digits, account):
-        self.ledger.use(("pin.clear", None, "host"))
+        self.ledger.use(self.need("pin.clear", None, "host"))
         pin = digits.rstrip("F")
         if len(pin) < 4:
             raise Refused("24")
         return sealed_pin(pin, account, self.lmks)
 
     def ng(self, account, digits):
-        self.ledger.use(("pin.clear", None, "host"))
+        self.ledger.use(self.need("pin.clear", None, "host"))
         return self.pin_under_lmk(digits, account).ljust(12, "F")
 
     def ja(self, account, length):
@@ -445,7 +466,7 @@ class Hsm:  # one method a command
 
     def text_gc(self, code, scheme):
         self.check_length(code, scheme)
-        self.ledger.use(("component", code, "console"))
+        self.ledger.use(self.need("component", code, "console"))
         key = drawn(self.ledger.draw(2 * PARTS[scheme]), PARTS[scheme])
         return [key.hex().upper(), self.seal(code, scheme, key), check_value(key)]
 
@@ -457,7 +478,7 @@ class Hsm:  # one method a command
         key = bytes(map(odd, key))
         if repeats_part(key):
             raise Refused("75")
-        self.ledger.use(("component", code, "console"))
+        self.ledger.use(self.need("component", code, "console"))
         return [self.seal(code, scheme, key), check_value(key)]
 
 
@@ -550,9 +571,9 @@ def run_script(hsm, script):
 class Lines:
     """The lines of a script, each with the lines that it prints. The answer of each is stated beside it."""
 
-    def __init__(self, lmks=SET_T):
-        self.run = Run(Hsm(lmks))
-        self.lmks = lmks
+    def __init__(self, lmks=SET_T, others=()):
+        self.run = Run(Hsm(lmks, others=others))
+        self.lmks, self.others = lmks, others
         self.cases = []
 
     def line(self, text, *wanted):
@@ -587,7 +608,7 @@ class Lines:
         script = "".join(text + "\n" for text, _ in self.cases).encode()
         output = [text for _, printed in self.cases for text in printed] + self.run.end()
         output = "".join(text + "\n" for text in output).encode()
-        assert run_script(Hsm(self.lmks), script)[0] == output
+        assert run_script(Hsm(self.lmks, others=self.others), script)[0] == output
         return script, output
 
 

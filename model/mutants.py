@@ -5,7 +5,8 @@
 
 FOLDER gets `mutants.script`, with COUNT messages and texts over two lanes and the console under the test set, and
 `mutants.output`. Each is one of those that the other scripts here print, as it stands or with a character changed, put
-in, left out or doubled, cut short, or with a trailer; officers allow and cancel activities between them. With CODEs,
+in, left out or doubled, cut short, with a trailer, or with the name of an LMK set; officers allow and cancel activities
+between them. With CODEs,
 only messages of these commands are used, and no console texts. What the program prints must be the output:
 
     hsm_tool script .. model/out/mutants.script | cmp - model/out/mutants.output
@@ -44,7 +45,8 @@ def changed(rng, text, characters):
     before, after = text[:place], text[place:]
     return rng.choice([
         text, text, text, before + rng.choice(characters) + after[1:], before + rng.choice(characters) + after,
-        before + after[1:], before + after[:1] + after, before, text + "\x19" + after[:32]])
+        before + after[1:], before + after[:1] + after, before, text + "\x19" + after[:32], text + "%00", text + "%01",
+        text + "%02\x19" + after[:32]])
 
 
 def write(folder, seed, count, codes):

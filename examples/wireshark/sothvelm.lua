@@ -26,6 +26,7 @@ local fields = {
     key = ProtoField.string("sothvelm.key", "Key text"),
     block = ProtoField.string("sothvelm.block", "Enciphered PIN"),
     clear = ProtoField.string("sothvelm.clear", "In the clear"),
+    set = ProtoField.string("sothvelm.set", "LMK set"),
     trailer = ProtoField.bytes("sothvelm.trailer", "Trailer"),
     rest = ProtoField.bytes("sothvelm.rest", "Not read"),
 }
@@ -153,7 +154,8 @@ end
 
 -- Trees of frames
 
-local function add_fields(tree, range, at, list)
+-- The fields from a place on; behind those of a message, the LMK set that it names; and the trailer, or what is not read.
+local function add_fields(tree, range, at, list, is_reply)
     local texts = {}
     for _, entry in ipairs(list) do
         local rest = range:len() > at and range(at):raw() or ""
@@ -168,6 +170,10 @@ local function add_fields(tree, range, at, list)
             item:set_text(entry.name .. " (" .. entry.form .. "): " .. texts[#texts])
         end
         at = at + size
+    end
+    if not is_reply and at + 3 <= range:len() and range(at, 3):raw():match("^%%%d%d$") then
+        tree:add(fields.set, range(at, 3))
+        at = at + 3
     end
     if at < range:len() then
         tree:add(range(at, 1):uint() == 0x19 and fields.trailer or fields.rest, range(at))
@@ -204,7 +210,7 @@ local function add_host(tree, range, is_reply)
     elseif command then
         info = info .. " " .. command.title
     end
-    add_fields(tree, range, at, list)
+    add_fields(tree, range, at, list, is_reply)
     return info
 end
 
@@ -223,6 +229,10 @@ local function add_console(tree, range, is_reply)
     if command then
         tree:add(fields.code, range(0, #command.code))
         tree:add(fields.title, range(0, #command.code), command.title)
+        local at = (command.code == "GC" or command.code == "FK") and text:find(" %%%d%d$")
+        if at then
+            tree:add(fields.set, range(at, 3))
+        end
     end
     return ">" .. text
 end

@@ -9,6 +9,7 @@ from typing import Any, Callable
 from unittest import mock
 
 from gateway.app import read_table
+from gateway.forms import trailer_of
 from gateway.tests.harness import TOP
 
 KEY, PAIR = "U70608A485781E63A744063451C9937C8", "783D054D5587C8BD8FB88A71AC1A5C5D"
@@ -23,8 +24,11 @@ CASES = [
      "field 7, account field: no text of the form 12N: the message ends before it does"),
     (f"CA{KEY[1:17]}", "15", "fields", "field 2, ZPK: no text of the form K: the message ends before it does"),
     (f"CA{KEY}{KEY}13{BLOCK}", "15", "fields", "field 3, greatest length: no text of the form len"),
-    (f"CA{KEY}{KEY}12{BLOCK}0101{ACCOUNT}1", "15", "end", "behind field 7: something follows that is no trailer"),
-    ("NCX", "15", "end", "behind the command: something follows that is no trailer"),
+    (f"CA{KEY}{KEY}12{BLOCK}0101{ACCOUNT}1", "15", "end",
+     "behind field 7: something follows that is no LMK set and trailer"),
+    ("NCX", "15", "end", "behind the command: something follows that is no LMK set and trailer"),
+    (f"CA{KEY}{KEY}12{BLOCK}0101{ACCOUNT}%01", "13", "set", "the LMK set that the message names is not loaded"),
+    ("NC%1", "15", "end", "behind the command: something follows that is no LMK set and trailer"),
     (f"CA{KEY}{KEY}12{BLOCK}0101{ACCOUNT}", "10", "keys", f"field 1, TPK: {PARITY}"),
     (f"CA{KEY}{KEY}12{BLOCK}0101{ACCOUNT}", "11", "keys", f"field 2, ZPK: {PARITY}"),
     (f"CA{KEY}{KEY}12{BLOCK}0101{ACCOUNT}\x19trailer", "20", "data",
@@ -72,6 +76,11 @@ class Words(unittest.TestCase):
                 number = re.match("field ([0-9]+)", words)
                 self.assertEqual(found.field, int(number[1]) if number else 0)
 
+    def test_the_trailer_behind_an_lmk_set(self) -> None:
+        commands = read_table().commands
+        for message, trailer in ("NC%01\x19ab", "\x19ab"), ("NC\x19%01", "\x19%01"), ("NC%01", ""), ("NC%1\x19ab", ""):
+            self.assertEqual(trailer_of(commands["NC"], message[2:]), trailer)
+
     def test_a_code_that_does_not_fit(self) -> None:
         refusals = read_table()
         for message, code in ("NC", "10"), ("CA", "23"), ("NC", "??"), (f"CW{PAIR}", "01"):
@@ -82,6 +91,7 @@ class Words(unittest.TestCase):
         if not shutil.which("openssl"):
             self.skipTest("no openssl")
         checks = {"68": {"command"}, "04": {"fields"}, "05": {"fields"}, "23": {"fields"}, "15": {"fields", "end"},
+                  "13": {"set"},
                   "26": {"fields", "keys"}, "27": {"keys"}, "10": {"keys"}, "11": {"keys"}, "29": {"type"},
                   "75": {"parts"}, "17": {"activity"}, "25": {"data"}, "20": {"data"}, "24": {"data"}, "14": {"data"},
                   "80": {"data"}, "01": {"comparison"}}

@@ -20,6 +20,7 @@ use Rattle.hsm_rows.specs.Table.{RowShape, row_with, host_rows, console_rows, ro
 use Rattle.hsm_rows.proofs.RowLemmas.{all_but}
 use Rattle.hsm_rows.specs.Reading.{ReadText}
 use Rattle.hsm_rows.specs.Clear.{has_clear}
+use Rattle.hsm_answers.specs.Read.{read_by}
 use Rattle.hsm_answers.specs.Keys.{first_code, type_of}
 use Rattle.hsm_answers.specs.Checks.{early_fault, late_fault, check_read, fixed_need, needs_of, is_refused}
 use Rattle.hsm_answers.specs.Asks.{asked_words, row_ask}
@@ -90,11 +91,11 @@ record NeedsOne (row : RowShape) (m : Module) (read : ReadText) : Type 0 where
   need : Activity
   needed : map (fixed_need read) (rules_of row).needs ≡ need ∷ []
   is : IsMarkOf row read need
-  asks : row_ask m (rules_of row) read (rules_of row).ask ≡ ask.Use (only_need need) (asked_words m (rules_of row) read)
+  asks : row_ask (read_by m row read) (rules_of row).ask ≡ ask.Use (only_need need) (asked_words (read_by m row read))
 
 needs_NG : (m : Module) (read : ReadText) → NeedsOne row_NG m read
 unfolding row_ask needs_of
-needs_NG m read = record { need = clear_pins; needed = refl; is = inl (refl, refl); asks = refl }
+needs_NG m read = record { need = clear_pins read; needed = refl; is = inl (refl, refl); asks = refl }
 
 needs_GC : (m : Module) (read : ReadText) → NeedsOne row_GC m read
 unfolding row_ask needs_of type_of
@@ -156,9 +157,10 @@ pub granted_at : MetCovered → LiveContains → (m : Module) (side : Place) (me
     → (s : ShowsClear m side message e.granted) → IsGrantedAt s.row s.read h i e
 unfolding check_read message_ask
 granted_at met_covered contains m side message h i e asks answers s =
-    let parts = passed_before (early_fault m (rules_of s.row) s.read) (late_fault m (rules_of s.row) s.read) (is_refused e.granted) s.good in
+    let said = read_by m s.row s.read in
+    let parts = passed_before (early_fault said) (late_fault said) (is_refused e.granted) s.good in
     let one = needs_marked m s.read s.row (is_marked m side (command_of m side message) s.row s.found s.marked) in
-    let words = asked_words m (rules_of s.row) s.read in
+    let words = asked_words said in
     let asked : e.ask ≡ ask.Use (only_need one.need) words =
     asks ∙ (ap (ask_by m side message) s.found ∙ (passed_ask m s.row (text_after m side message) s.read s.reads parts.0 ∙ one.asks)) in
     let answered : e.granted ≡ outcome (take i h) e.moment (ask.Use (only_need one.need) words) = answers ∙ ap (outcome (take i h) e.moment) asked in

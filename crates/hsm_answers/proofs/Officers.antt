@@ -12,11 +12,11 @@ use Rattle.hsm_rows.specs.declared.settings.Module.{Module}
 use Rattle.hsm_rows.specs.declared.row.Code.{Code}
 use Rattle.hsm_rows.specs.Table.{RowShape, host_rows, console_rows, row_A, rules_of}
 use Rattle.hsm_rows.proofs.RowLemmas.{all_but}
-use Rattle.hsm_rows.specs.Rules.{RowRules}
 use Rattle.hsm_rows.specs.declared.rules.AskKind.{AskKind}
 use Rattle.hsm_rows.specs.declared.rules.AskKind.TheVariants.{UseAsk, LookAsk, RecentAsk, CancelAllAsk, AuthoriseAsk, CancelAsk}
 use Rattle.hsm_rows.specs.Forms.{decimal_from}
 use Rattle.hsm_rows.specs.Reading.{reading, ReadText}
+use Rattle.hsm_answers.specs.Read.{ReadMessage, read_by, message_in}
 use Rattle.hsm_answers.specs.Keys.{field_text}
 use Rattle.hsm_answers.specs.Checks.{early_fault}
 use Rattle.hsm_answers.specs.Asks.{ask_of, ask_read, row_ask, empty_ask, authorise, cancel, words_hold, are_digests}
@@ -84,14 +84,14 @@ module _ (m : Module) (a : Activity) (n : ℕ) where
   cancels false (Some b) h = cc
 
   -- an ask that authorises is that of a row which does
-  kind_is : (rules : RowRules) (r : ReadText) (kind : AskKind) → row_ask m rules r kind ≡ ask.Authorise a n → kind ≡ AuthoriseAsk
+  kind_is : (q : ReadMessage) (kind : AskKind) → row_ask q kind ≡ ask.Authorise a n → kind ≡ AuthoriseAsk
   unfolding row_ask
-  kind_is rules r UseAsk h = absurd (cc)
-  kind_is rules r LookAsk h = absurd (cc)
-  kind_is rules r RecentAsk h = absurd (cc)
-  kind_is rules r CancelAllAsk h = absurd (cc)
-  kind_is rules r AuthoriseAsk h = refl
-  kind_is rules r CancelAsk h = absurd (cancels (bytes_eq (field_text r 0) (codes "*")) (activity_of (field_text r 0)) h)
+  kind_is q UseAsk h = absurd (cc)
+  kind_is q LookAsk h = absurd (cc)
+  kind_is q RecentAsk h = absurd (cc)
+  kind_is q CancelAllAsk h = absurd (cc)
+  kind_is q AuthoriseAsk h = refl
+  kind_is q CancelAsk h = absurd (cancels (bytes_eq (field_text q.read 0) (codes "*")) (activity_of (field_text q.read 0)) h)
 
   none : {X : Type 0} → empty_ask ≡ ask.Authorise a n → X
   none h = absurd (cc)
@@ -112,26 +112,26 @@ module _ (m : Module) (a : Activity) (n : ℕ) where
 
   by_row : (side : Place) (message : List ℕ) (row : RowShape) (r : ReadText) → enabled_row m side (command_of m side message) ≡ Some row
       → reading row (text_after m side message) ≡ Ok r → (side ≡ Console) × (row ≡ row_A)
-      → row_ask m (rules_of row) r (rules_of row).ask ≡ ask.Authorise a n → Authorises m side message a n
+      → row_ask (read_by m row r) (rules_of row).ask ≡ ask.Authorise a n → Authorises m side message a n
   unfolding row_ask words_hold
   by_row side message row r f e is h =
       by_words side message r is.0 (f ∙ ap (λ (d : RowShape). Some d) is.1) (ap (λ (d : RowShape). reading d (text_after m side message)) (sym is.1) ∙ e)
       (are_digests m.officers (field_text r 2) (field_text r 3)) refl (activity_of (field_text r 0)) refl
-      (ap (λ (d : RowShape). row_ask m (rules_of d) r (rules_of d).ask) (sym is.1) ∙ h)
+      (ap (λ (d : RowShape). row_ask (read_by m d r) (rules_of d).ask) (sym is.1) ∙ h)
 
   by_check : (side : Place) (message : List ℕ) (row : RowShape) (r : ReadText) (failed : Bool) → enabled_row m side (command_of m side message) ≡ Some row
       → reading row (text_after m side message) ≡ Ok r
-      → (if failed then empty_ask else row_ask m (rules_of row) r (rules_of row).ask) ≡ ask.Authorise a n → Authorises m side message a n
+      → (if failed then empty_ask else row_ask (read_by m row r) (rules_of row).ask) ≡ ask.Authorise a n → Authorises m side message a n
   by_check side message row r true f e h = none h
   by_check side message row r false f e h =
       by_row side message row r f e
-      ((enabled_among (OnlyA side) m side (command_of m side message) row (side_only side) f) (authorises_kind (rules_of row).ask (kind_is (rules_of row) r (rules_of row).ask h))) h
+      ((enabled_among (OnlyA side) m side (command_of m side message) row (side_only side) f) (authorises_kind (rules_of row).ask (kind_is (read_by m row r) (rules_of row).ask h))) h
 
   by_reading : (side : Place) (message : List ℕ) (row : RowShape) (rd : Result ReadText Code) → enabled_row m side (command_of m side message) ≡ Some row
-      → reading row (text_after m side message) ≡ rd → ask_read m (rules_of row) rd ≡ ask.Authorise a n → Authorises m side message a n
+      → reading row (text_after m side message) ≡ rd → ask_read (message_in m row rd) ≡ ask.Authorise a n → Authorises m side message a n
   unfolding ask_read
   by_reading side message row (Err code) f e h = none h
-  by_reading side message row (Ok r) f e h = by_check side message row r (is_some (early_fault m (rules_of row) r)) f e h
+  by_reading side message row (Ok r) f e h = by_check side message row r (is_some (early_fault (read_by m row r))) f e h
 
   by_enabled : (side : Place) (message : List ℕ) (found : Option RowShape) → enabled_row m side (command_of m side message) ≡ found
       → ask_by m side message found ≡ ask.Authorise a n → Authorises m side message a n

@@ -17,6 +17,7 @@ use Rattle.hsm_rows.specs.Table.{RowShape, row_A, row_GC, row_NG, rules_of}
 use Rattle.hsm_rows.specs.Forms.{decimal_from}
 use Rattle.hsm_rows.specs.Reading.{reading, ReadText}
 use Rattle.hsm_rows.specs.Clear.{has_clear}
+use Rattle.hsm_answers.specs.Read.{read_by}
 use Rattle.hsm_answers.specs.Checks.{check_read, fixed_need}
 use Rattle.hsm_answers.specs.Keys.{field_text, type_of_code}
 use Rattle.hsm_answers.specs.Messages.{command_of, enabled_row, text_after}
@@ -29,23 +30,23 @@ pub record ShowsClear (m : Module) (side : Place) (message : List ℕ) (g : Gran
   pub marked : has_clear row ≡ true
   pub read : ReadText
   pub reads : reading row (text_after m side message) ≡ Ok read
-  pub good : check_read m (rules_of row) read g ≡ None
+  pub good : check_read (read_by m row read) g ≡ None
 
 -- the needs that are this one activity
 abbrev pub only_need : Activity → Needs
 only_need activity = record { first = Some activity; second = None }
 
--- `pin.clear` at hosts
-abbrev pub clear_pins : Activity
-clear_pins = activity PinClear None (Some Host)
+-- `pin.clear` at hosts, under the set that the message names
+abbrev pub clear_pins : ReadText → Activity
+clear_pins read = activity PinClear None (Some Host) (Some read.set)
 
--- `component` of the type that the first field names, at the console
+-- `component` of the type that the first field names, at the console, under the set that the message names
 abbrev pub components : ReadText → Activity
-components read = activity Component (Some (type_of_code (field_text read 0))) (Some Console)
+components read = activity Component (Some (type_of_code (field_text read 0))) (Some Console) (Some read.set)
 
 -- the row is one of the two that show a clear key or PIN, and the activity is what its mark needs
 abbrev pub IsMarkOf : RowShape → ReadText → Activity → Type 0
-IsMarkOf row read need = ((row ≡ row_NG) × (need ≡ clear_pins)) ⊎ ((row ≡ row_GC) × (need ≡ components read))
+IsMarkOf row read need = ((row ≡ row_NG) × (need ≡ clear_pins read)) ⊎ ((row ≡ row_GC) × (need ≡ components read))
 
 -- The entry at the place `giver`, before place i, authorised the grant's activity, which gave the grant its end, and no entry between the two ends it.
 pub record IsGivenBefore (h : List Entry) (i giver : ℕ) (g : Grant) : Type 0 where

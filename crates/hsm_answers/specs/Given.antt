@@ -21,9 +21,9 @@ abbrev pub code_in : {K : Type 0} → Result K Code → Option ℕ
 code_in (Ok k) = None
 code_in (Err code) = Some code.0
 
--- the activity of an act on the type, at a host
-abbrev pub host_activity : Act → KeyType → Activity
-host_activity act ty = record { category = category_of act; ty = Some ty; place = Some Host }
+-- the activity of an act on the type, at a host, under the set
+abbrev pub host_activity : Act → KeyType → ℕ → Activity
+host_activity act ty n = record { category = category_of act; ty = Some ty; place = Some Host; set = Some n }
 
 -- 01 where a value is given that isn't the one that is written; letters may be of either case
 abbrev pub compared_code : List ℕ → List ℕ → Option ℕ

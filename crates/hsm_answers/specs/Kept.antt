@@ -4,6 +4,7 @@ use Rattle.hsm_types.specs.declared.types.KeyType.{KeyType}
 use Rattle.hsm_lmk.specs.Cache.{Agrees, kept_all}
 use Rattle.hsm_lmk.specs.Caches.{capacity_of, kept_in}
 use Rattle.hsm_lmk.specs.Opened.{opened}
+use Rattle.hsm_lmk.specs.Pairs.{set_at}
 use Rattle.hsm_lmk.specs.Sealing.{wrap}
 use Rattle.hsm_lmk.specs.declared.kept.KeyCache.{KeyCache}
 use Rattle.hsm_lmk.specs.declared.kept.KeyEntry.{KeyEntry}
@@ -14,15 +15,16 @@ use Rattle.hsm_rows.specs.declared.row.Code.{Code}
 use Rattle.hsm_rows.specs.declared.rules.KeyCheck.{KeyCheck}
 use Rattle.hsm_rows.specs.declared.rules.KeyCheck.TheVariants.{GivenKey, Target}
 use Rattle.hsm_rows.specs.declared.rules.Under.TheVariants.{Lmk, KeyAt}
-use Rattle.hsm_rows.specs.Reading.{reading, ReadText, is_end}
-use Rattle.hsm_rows.specs.Rules.{RowRules}
-use Rattle.hsm_rows.specs.Table.{RowShape, rules_of}
-use Rattle.hsm_answers.specs.Keys.{KeyData, field_text, key_data, key_fault, set_of, type_of}
+use Rattle.hsm_rows.specs.Reading.{is_end}
+use Rattle.hsm_rows.specs.Table.{RowShape}
+use Rattle.hsm_answers.specs.Read.{ReadMessage, message_read}
+use Rattle.hsm_answers.specs.Keys.{KeyData, field_text, key_data, key_fault, type_of}
+use Rattle.hsm_answers.specs.Checks.{is_loaded}
 use Rattle.hsm_answers.specs.Messages.{command_of, enabled_row, text_after}
 
--- each key that the cache keeps is the one that its text opens to under the module's LMK
+-- each key that the cache keeps is the one that its text opens to under its LMK set
 abbrev pub IsCacheOf : Module → KeyCache → Type 0
-IsCacheOf m cache = Agrees m.lmk (kept_in cache).entries
+IsCacheOf m cache = Agrees m.lmks.items (kept_in cache).entries
 
 -- these keys were opened one after another: the cache keeps them as it is to, and is one of the module's
 pub record Opens (m : Module) (before after : KeyCache) (keys : List KeyEntry) : Type 0 where
@@ -30,30 +32,32 @@ pub record Opens (m : Module) (before after : KeyCache) (keys : List KeyEntry) :
   pub capacity : capacity_of after ≡ capacity_of before
   pub kept : kept_in after ≡ kept_all (capacity_of before) (kept_in before) keys
 
--- the entry of a key text of the type
-abbrev pub entry_for : List (List (List ℕ)) → KeyType → Option KeyData → List KeyEntry
-entry_for set ty None = []
-entry_for set ty (Some k) = record { ty = ty; scheme = k.scheme; text = record { items = k.bytes }; key = opened (wrap set ty) k.scheme k.bytes } ∷ []
+-- the entry of a key text of the type under set n
+abbrev pub entry_for : List (List (List (List ℕ))) → ℕ → KeyType → Option KeyData → List KeyEntry
+entry_for sets n ty None = []
+entry_for sets n ty (Some k) =
+    record { set = n; ty = ty; scheme = k.scheme; text = record { items = k.bytes }; key = opened (wrap (set_at sets n) ty) k.scheme k.bytes } ∷ []
 
 -- the entry of a check: of a key under the LMK, but none of an absent wrapping key
-abbrev pub check_entries : Module → ReadText → KeyCheck → List KeyEntry
-check_entries m r (GivenKey k Lmk ty wraps rule parity) = if wraps && is_end (field_text r k) then [] else entry_for (set_of m) (type_of r ty) (key_data r k)
-check_entries m r (GivenKey k (KeyAt kek) ty wraps rule parity) = []
-check_entries m r (Target ty k second) = []
+abbrev pub check_entries : ReadMessage → KeyCheck → List KeyEntry
+check_entries q (GivenKey k Lmk ty wraps rule parity) =
+    if wraps && is_end (field_text q.read k) then [] else entry_for q.«module».lmks.items q.read.set (type_of q.read ty) (key_data q.read k)
+check_entries q (GivenKey k (KeyAt kek) ty wraps rule parity) = []
+check_entries q (Target ty k second) = []
 
 -- those of the checks in their order, up to the first that fails
-abbrev pub checks_entries : Module → RowRules → ReadText → List KeyCheck → List KeyEntry
-checks_entries m rules r [] = []
-checks_entries m rules r (c ∷ cs) = if is_some (key_fault m rules r c) then [] else check_entries m r c ++ checks_entries m rules r cs
+abbrev pub checks_entries : ReadMessage → List KeyCheck → List KeyEntry
+checks_entries q [] = []
+checks_entries q (c ∷ cs) = if is_some (key_fault q c) then [] else check_entries q c ++ checks_entries q cs
 
--- none where the fields don't read
-abbrev pub read_entries : Module → RowRules → Result ReadText Code → List KeyEntry
-read_entries m rules (Err code) = []
-read_entries m rules (Ok r) = checks_entries m rules r rules.keys
+-- none where the fields don't read or the set isn't loaded
+abbrev pub read_entries : Result ReadMessage Code → List KeyEntry
+read_entries (Err code) = []
+read_entries (Ok q) = if is_loaded q then checks_entries q q.rules.keys else []
 
 -- what a message of the row opens; the text is what follows the command code
 unfoldable pub opened_by : Module → RowShape → List ℕ → List KeyEntry
-opened_by m row text = read_entries m (rules_of row) (reading row text)
+opened_by m row text = read_entries (message_read m row text)
 
 -- what a host's message in the row opens; a command in no row opens nothing
 abbrev pub opened_in : Module → List ℕ → Option RowShape → List KeyEntry

@@ -11,16 +11,16 @@ use Rattle.hsm_types.specs.declared.types.Scheme.TheVariants as scheme
 use Rattle.hsm_types.specs.Table.{type_with, allows_length}
 use Rattle.hsm_types.specs.Schemes.{scheme_parts}
 use Rattle.hsm_nibbles.specs.Characters.{bytes_of_hex, hex_of_bytes}
+use Rattle.hsm_lmk.specs.Pairs.{set_at}
 use Rattle.hsm_lmk.specs.Sealing.{wrap}
 use Rattle.hsm_lmk.specs.Opening.{refuses_scheme, is_untagged_pair}
 use Rattle.hsm_lmk.specs.Opened.{sealed, opened, all_odd}
 use Rattle.hsm_text.specs.KeyTexts.{scheme_named, scheme_of, digits_of}
-use Rattle.hsm_rows.specs.declared.settings.Module.{Module}
 use Rattle.hsm_rows.specs.declared.row.Code.{Code}
+use Rattle.hsm_answers.specs.Read.{ReadMessage}
 use Rattle.hsm_answers.specs.declared.keys.Asked.{Asked}
 use Rattle.hsm_rows.specs.Forms.{text_at, is_ff}
 use Rattle.hsm_rows.specs.Reading.{ReadText, is_end}
-use Rattle.hsm_rows.specs.Rules.{RowRules}
 use Rattle.hsm_rows.specs.declared.rules.KeyCheck.{KeyCheck}
 use Rattle.hsm_rows.specs.declared.rules.TypeSource.{TypeSource}
 use Rattle.hsm_rows.specs.declared.rules.LengthRule.{LengthRule}
@@ -38,9 +38,9 @@ field_text r k = text_at r.texts k
 abbrev pub is_absent : ReadText → ℕ → Bool
 is_absent r k = is_end (field_text r k)
 
--- the LMK set of the message
-abbrev pub set_of : Module → List (List (List ℕ))
-set_of m = m.lmk
+-- the LMK set that the message names
+abbrev pub set_of : ReadMessage → List (List (List ℕ))
+set_of q = set_at q.«module».lmks.items q.read.set
 
 -- the scheme that a scheme field names
 abbrev pub scheme_at : ReadText → ℕ → Scheme
@@ -108,12 +108,12 @@ opened_key w None = []
 opened_key w (Some k) = opened w k.scheme k.bytes
 
 -- the key of field k under the LMK pair of the type that the row names
-unfoldable pub lmk_key : Module → RowRules → ReadText → ℕ → List (List ℕ)
-lmk_key m rules r k = opened_key (wrap (set_of m) (type_of r (source_at k rules.keys))) (key_data r k)
+unfoldable pub lmk_key : ReadMessage → ℕ → List (List ℕ)
+lmk_key q k = opened_key (wrap (set_of q) (type_of q.read (source_at k q.rules.keys))) (key_data q.read k)
 
 -- the key of field k under the key of field kek
-abbrev pub wrapped_key : Module → RowRules → ReadText → ℕ → ℕ → List (List ℕ)
-wrapped_key m rules r k kek = opened_key (lmk_key m rules r kek) (key_data r k)
+abbrev pub wrapped_key : ReadMessage → ℕ → ℕ → List (List ℕ)
+wrapped_key q k kek = opened_key (lmk_key q kek) (key_data q.read k)
 
 -- the number of parts that a scheme field asks for
 abbrev pub parts_by_scheme : LengthRule → ReadText → Option ℕ
@@ -166,9 +166,9 @@ abbrev pub given_fault : Option (List (List ℕ)) → Under → Asked → List �
 given_fault w under a text = if a.wraps && is_end text then None else key_data_fault w under a (key_of text)
 
 -- what the key of a field is under, if it is there
-abbrev pub wrapping_key : Module → RowRules → ReadText → Under → KeyType → Option (List (List ℕ))
-wrapping_key m rules r Lmk ty = Some (wrap (set_of m) ty)
-wrapping_key m rules r (KeyAt kek) ty = if is_absent r kek then None else Some (lmk_key m rules r kek)
+abbrev pub wrapping_key : ReadMessage → Under → KeyType → Option (List (List ℕ))
+wrapping_key q Lmk ty = Some (wrap (set_of q) ty)
+wrapping_key q (KeyAt kek) ty = if is_absent q.read kek then None else Some (lmk_key q kek)
 
 -- two schemes of different lengths; the second may be absent
 abbrev pub lengths_differ : ReadText → ℕ → Option ℕ → Bool
@@ -181,12 +181,12 @@ asked_key r ty wraps rule parity =
     record { ty = type_of r ty; wraps = wraps; by_scheme = parts_by_scheme rule r; by_rule = parts_by_rule rule r; parity = parity }
 
 -- what is wrong with a key; one to be made has 26 where the lengths of its two schemes differ, and 27 where its type doesn't allow the length
-unfoldable pub key_fault : Module → RowRules → ReadText → KeyCheck → Option ℕ
-key_fault m rules r (GivenKey k under ty wraps rule parity) =
-    given_fault (wrapping_key m rules r under (type_of r ty)) under (asked_key r ty wraps rule parity) (field_text r k)
-key_fault m rules r (Target ty k second) =
-    if lengths_differ r k second then Some 26
-    else if not (allows_length (type_of r ty) (scheme_parts (scheme_at r k))) then Some 27
+unfoldable pub key_fault : ReadMessage → KeyCheck → Option ℕ
+key_fault q (GivenKey k under ty wraps rule parity) =
+    given_fault (wrapping_key q under (type_of q.read ty)) under (asked_key q.read ty wraps rule parity) (field_text q.read k)
+key_fault q (Target ty k second) =
+    if lengths_differ q.read k second then Some 26
+    else if not (allows_length (type_of q.read ty) (scheme_parts (scheme_at q.read k))) then Some 27
     else None
 
 -- the first of these codes
@@ -195,6 +195,6 @@ first_code [] = None
 first_code (None ∷ more) = first_code more
 first_code (Some code ∷ more) = Some code
 
--- check 4: the first key, in the row's order, with a fault
-unfoldable pub keys_fault : Module → RowRules → ReadText → List KeyCheck → Option ℕ
-keys_fault m rules r keys = first_code (map (key_fault m rules r) keys)
+-- the first key, in the row's order, with a fault
+unfoldable pub keys_fault : ReadMessage → List KeyCheck → Option ℕ
+keys_fault q keys = first_code (map (key_fault q) keys)

@@ -7,10 +7,9 @@ use Rattle.hsm_mac.specs.declared.Pad.{Pad}
 use Rattle.hsm_mac.specs.declared.Pad.TheVariants.{Bare, Zeros, Bit, Length}
 use Rattle.hsm_mac.specs.Macs.{blocks_of, padded, chained, mac, fills_blocks, is_bare, is_length}
 use Rattle.hsm_nibbles.specs.Characters.{bytes_of_hex}
-use Rattle.hsm_rows.specs.declared.settings.Module.{Module}
 use Rattle.hsm_rows.specs.Reading.{ReadText, is_end}
-use Rattle.hsm_rows.specs.Rules.{RowRules}
 use Rattle.hsm_rows.specs.declared.rules.MacFields.{MacFields}
+use Rattle.hsm_answers.specs.Read.{ReadMessage}
 use Rattle.hsm_answers.specs.Keys.{field_text, is_absent, lmk_key}
 use Rattle.hsm_answers.specs.Pins.{block_at, block_text}
 
@@ -55,11 +54,11 @@ mac_fault r f =
     else None
 
 -- the MAC, of 8 digits with size 0 and 16 with size 1
-unfoldable pub mac_text : Module → RowRules → ReadText → MacFields → List ℕ
-mac_text m rules r f =
-    let digits = block_text (mac (lmk_key m rules r f.key) (mac_algorithm r f) (mac_start r f) (blocks_of (padded (mac_padding r f) (mac_data r f)))) in
-    if is_digit_at r f.size (codes "0") then take 8 digits else digits
+unfoldable pub mac_text : ReadMessage → MacFields → List ℕ
+mac_text q f =
+    let digits = block_text (mac (lmk_key q f.key) (mac_algorithm q.read f) (mac_start q.read f) (blocks_of (padded (mac_padding q.read f) (mac_data q.read f)))) in
+    if is_digit_at q.read f.size (codes "0") then take 8 digits else digits
 
 -- the chaining value after the data, without the closing step
-unfoldable pub chain_text : Module → RowRules → ReadText → MacFields → List ℕ
-chain_text m rules r f = block_text (chained (mac_algorithm r f) (lmk_key m rules r f.key) (mac_start r f) (blocks_of (mac_data r f)))
+unfoldable pub chain_text : ReadMessage → MacFields → List ℕ
+chain_text q f = block_text (chained (mac_algorithm q.read f) (lmk_key q f.key) (mac_start q.read f) (blocks_of (mac_data q.read f)))

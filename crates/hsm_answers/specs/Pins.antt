@@ -11,12 +11,11 @@ use Rattle.hsm_pinblock.specs.declared.Format.{Format}
 use Rattle.hsm_pinblock.specs.declared.Format.TheVariants.{F01, F03, F05, F47}
 use Rattle.hsm_pinblock.specs.declared.BlockFault.{BlockFault}
 use Rattle.hsm_pinblock.specs.declared.BlockFault.TheVariants.{Control, Length, Body}
-use Rattle.hsm_rows.specs.declared.settings.Module.{Module}
 use Rattle.hsm_rows.specs.Forms.{two_digit_value}
 use Rattle.hsm_rows.specs.Reading.{ReadText}
-use Rattle.hsm_rows.specs.Rules.{RowRules}
 use Rattle.hsm_rows.specs.declared.rules.PinSource.{PinSource}
 use Rattle.hsm_rows.specs.declared.rules.PinSource.TheVariants.{NoPin, BlockPin, LmkPin, ClearPin, DrawnPin}
+use Rattle.hsm_answers.specs.Read.{ReadMessage}
 use Rattle.hsm_answers.specs.Keys.{field_text, set_of, lmk_key}
 use Rattle.hsm_answers.specs.Draws.{drawn_digits}
 
@@ -57,32 +56,32 @@ pin_account r (ClearPin text account) = digits_at r account
 pin_account r (DrawnPin len account) = digits_at r account
 
 -- the block that the row's PIN was sent in, deciphered
-abbrev pub sent_block : Module → RowRules → ReadText → ℕ → ℕ → ℕ
-sent_block m rules r block key = deciphered (lmk_key m rules r key) (block_at r block)
+abbrev pub sent_block : ReadMessage → ℕ → ℕ → ℕ
+sent_block q block key = deciphered (lmk_key q key) (block_at q.read block)
 
 -- the block of a PIN under the LMK, deciphered
-abbrev pub lmk_block : Module → ReadText → ℕ → ℕ
-lmk_block m r text = opened_block (set_of m) (block_at r text)
+abbrev pub lmk_block : ReadMessage → ℕ → ℕ
+lmk_block q text = opened_block (set_of q) (block_at q.read text)
 
 -- the clear digits before the F
 abbrev pub clear_digits : ReadText → ℕ → List ℕ
 clear_digits r text = map digit_value (take_while is_ascii_digit (field_text r text))
 
 -- the row's PIN; one to be drawn has its words from the place on
-unfoldable pub pin_from : Module → RowRules → ReadText → ℕ → PinSource → List ℕ
-pin_from m rules r place NoPin = []
-pin_from m rules r place (BlockPin block key format account) = pin_of_block (format_at r format) (sent_block m rules r block key) (digits_at r account)
-pin_from m rules r place (LmkPin text account) = pin_of_block F01 (lmk_block m r text) (digits_at r account)
-pin_from m rules r place (ClearPin text account) = clear_digits r text
-pin_from m rules r place (DrawnPin len account) = drawn_digits m place (number_at r len)
+unfoldable pub pin_from : ReadMessage → ℕ → PinSource → List ℕ
+pin_from q place NoPin = []
+pin_from q place (BlockPin block key format account) = pin_of_block (format_at q.read format) (sent_block q block key) (digits_at q.read account)
+pin_from q place (LmkPin text account) = pin_of_block F01 (lmk_block q text) (digits_at q.read account)
+pin_from q place (ClearPin text account) = clear_digits q.read text
+pin_from q place (DrawnPin len account) = drawn_digits q.«module» place (number_at q.read len)
 
 -- the PIN of the row
-abbrev pub pin_of : Module → RowRules → ReadText → ℕ → List ℕ
-pin_of m rules r place = pin_from m rules r place rules.pin
+abbrev pub pin_of : ReadMessage → ℕ → List ℕ
+pin_of q place = pin_from q place q.rules.pin
 
 -- the PIN that was given; none of its words is drawn
-abbrev pub given_pin : Module → RowRules → ReadText → List ℕ
-given_pin m rules r = pin_of m rules r 0
+abbrev pub given_pin : ReadMessage → List ℕ
+given_pin q = pin_of q 0
 
 -- 20 for control and body, 24 for the length
 abbrev pub block_code : BlockFault → ℕ
@@ -96,12 +95,12 @@ block_fault_code None = None
 block_fault_code (Some fault) = Some (block_code fault)
 
 -- what is wrong with the row's PIN: a block 20 or 24, a text under the LMK 14, fewer than 4 clear digits 24
-unfoldable pub pin_fault : Module → RowRules → ReadText → PinSource → Option ℕ
-pin_fault m rules r NoPin = None
-pin_fault m rules r (BlockPin block key format account) = block_fault_code (blockfault (format_at r format) (sent_block m rules r block key) (digits_at r account))
-pin_fault m rules r (LmkPin text account) = if is_some (blockfault F01 (lmk_block m r text) (digits_at r account)) then Some 14 else None
-pin_fault m rules r (ClearPin text account) = if nat_lt (length (clear_digits r text)) 4 then Some 24 else None
-pin_fault m rules r (DrawnPin len account) = None
+unfoldable pub pin_fault : ReadMessage → PinSource → Option ℕ
+pin_fault q NoPin = None
+pin_fault q (BlockPin block key format account) = block_fault_code (blockfault (format_at q.read format) (sent_block q block key) (digits_at q.read account))
+pin_fault q (LmkPin text account) = if is_some (blockfault F01 (lmk_block q text) (digits_at q.read account)) then Some 14 else None
+pin_fault q (ClearPin text account) = if nat_lt (length (clear_digits q.read text)) 4 then Some 24 else None
+pin_fault q (DrawnPin len account) = None
 
 -- the nibbles of fill that a block of the format with the PIN takes
 abbrev pub fill_length : Format → List ℕ → ℕ

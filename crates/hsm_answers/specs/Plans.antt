@@ -6,10 +6,9 @@ use Rattle.hsm_auth.specs.declared.entry.Granted.{Granted}
 use Rattle.hsm_auth.specs.History.{CanAsk}
 use Rattle.hsm_rows.specs.declared.settings.Module.{Module}
 use Rattle.hsm_rows.specs.declared.row.Code.{Code}
-use Rattle.hsm_rows.specs.Table.{RowShape, rules_of}
-use Rattle.hsm_rows.specs.Rules.{RowRules}
+use Rattle.hsm_rows.specs.Table.{RowShape}
 use Rattle.hsm_rows.specs.Texts.{two_digits}
-use Rattle.hsm_rows.specs.Reading.{ReadText, reading}
+use Rattle.hsm_answers.specs.Read.{ReadMessage, message_read}
 use Rattle.hsm_answers.specs.declared.plans.Checked.{Checked}
 use Rattle.hsm_answers.specs.declared.plans.Checked.TheVariants.{Unread, Failed, Passed}
 use Rattle.hsm_answers.specs.Keys.{first_code}
@@ -22,24 +21,24 @@ abbrev pub code_number : Code → ℕ
 code_number code = code.0
 
 -- an early check fails
-pub record HasFailed (m : Module) (row : RowShape) (r : ReadText) (code : ℕ) (trailer : List ℕ) : Type 0 where
-  pub fault : early_fault m (rules_of row) r ≡ Some code
-  pub rest : r.trailer ≡ trailer
+pub record HasFailed (q : ReadMessage) (code : ℕ) (trailer : List ℕ) : Type 0 where
+  pub fault : early_fault q ≡ Some code
+  pub rest : q.read.trailer ≡ trailer
 
 -- the early checks hold, and this is what the late ones find
-pub record HasPassed (m : Module) (row : RowShape) (r : ReadText) (found : Option ℕ) (trailer : List ℕ) : Type 0 where
-  pub early : early_fault m (rules_of row) r ≡ None
-  pub late : late_fault m (rules_of row) r ≡ found
-  pub rest : r.trailer ≡ trailer
+pub record HasPassed (q : ReadMessage) (found : Option ℕ) (trailer : List ℕ) : Type 0 where
+  pub early : early_fault q ≡ None
+  pub late : late_fault q ≡ found
+  pub rest : q.read.trailer ≡ trailer
 
 -- the checks of what was read came to this, and this is the trailer that is repeated
-abbrev pub IsChecked : Module → RowShape → Result ReadText Code → Checked → List ℕ → Type 0
-IsChecked m row (Err code) (Unread unread) trailer = (code ≡ unread) × (trailer ≡ [])
-IsChecked m row (Err code) (Failed failed) trailer = ⊥
-IsChecked m row (Err code) (Passed late) trailer = ⊥
-IsChecked m row (Ok r) (Unread unread) trailer = ⊥
-IsChecked m row (Ok r) (Failed failed) trailer = HasFailed m row r failed.0 trailer
-IsChecked m row (Ok r) (Passed late) trailer = HasPassed m row r (option_map code_number late) trailer
+abbrev pub IsChecked : Result ReadMessage Code → Checked → List ℕ → Type 0
+IsChecked (Err code) (Unread unread) trailer = (code ≡ unread) × (trailer ≡ [])
+IsChecked (Err code) (Failed failed) trailer = ⊥
+IsChecked (Err code) (Passed late) trailer = ⊥
+IsChecked (Ok q) (Unread unread) trailer = ⊥
+IsChecked (Ok q) (Failed failed) trailer = HasFailed q failed.0 trailer
+IsChecked (Ok q) (Passed late) trailer = HasPassed q (option_map code_number late) trailer
 
 -- the code of the refusal at the entry, if there is one
 abbrev pub fault_at : Checked → Granted → Option ℕ
@@ -62,18 +61,18 @@ abbrev pub host_text : RowShape → Checked → Granted → List ℕ → List �
 host_text row checked g fields trailer = row.reply ++ (code_text (fault_at checked g) ++ (fields_after (fault_at checked g) fields ++ trailer))
 
 -- the values of the reply fields one after another
-abbrev pub fields_text : Module → RowRules → RowShape → Granted → ReadText → List ℕ
-fields_text m rules row g r = flat_map (λ field. field) (values m rules r g row.terms)
+abbrev pub fields_text : RowShape → ReadMessage → Granted → List ℕ
+fields_text row q g = flat_map (λ field. field) (values q g row.terms)
 
 -- these are the reply fields, where what was read is answered 00
-abbrev pub AreFields : Module → RowShape → Result ReadText Code → Checked → Granted → List ℕ → Type 0
-AreFields m row (Err code) checked g fields = Unit {0}
-AreFields m row (Ok r) checked g fields = fault_at checked g ≡ None → fields_text m (rules_of row) row g r ≡ fields
+abbrev pub AreFields : RowShape → Result ReadMessage Code → Checked → Granted → List ℕ → Type 0
+AreFields row (Err code) checked g fields = Unit {0}
+AreFields row (Ok q) checked g fields = fault_at checked g ≡ None → fields_text row q g ≡ fields
 
 -- What a plan keeps of a message of the row: its ask, what its checks came to, the trailer that is repeated, and its reply fields by the answer of its entry.
 pub record IsPlanned (m : Module) (row : RowShape) (text : List ℕ) (ask : Ask) (checked : Checked) (trailer : List ℕ) (fields : Granted → List ℕ) : Type 0 where
   pub asked : ask ≡ ask_of m row text
   pub may : CanAsk ask
-  pub checks : IsChecked m row (reading row text) checked trailer
+  pub checks : IsChecked (message_read m row text) checked trailer
   pub short : length trailer ≤ 33
-  pub answers : (g : Granted) → AreFields m row (reading row text) checked g (fields g)
+  pub answers : (g : Granted) → AreFields row (message_read m row text) checked g (fields g)

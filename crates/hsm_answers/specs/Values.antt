@@ -17,7 +17,6 @@ use Rattle.hsm_auth.specs.declared.entry.Kind.TheVariants as kind
 use Rattle.hsm_auth.specs.declared.entry.Granted.{Granted}
 use Rattle.hsm_auth.specs.declared.entry.Granted.TheVariants as granted
 use Rattle.hsm_auth.specs.Activities.{text_of}
-use Rattle.hsm_rows.specs.declared.settings.Module.{Module}
 use Rattle.hsm_rows.specs.declared.row.Secret.{Secret}
 use Rattle.hsm_rows.specs.declared.row.Secret.TheVariants.{Opened, OpenedUnder, DrawnKey, Joined}
 use Rattle.hsm_rows.specs.declared.row.Public.{Public}
@@ -25,11 +24,11 @@ use Rattle.hsm_rows.specs.declared.row.Public.TheVariants.{Given, Fixed, Sealed,
 use Rattle.hsm_rows.specs.Table.{Term, plain_text, term}
 use Rattle.hsm_rows.specs.Texts.{two_digits}
 use Rattle.hsm_rows.specs.Reading.{ReadText}
-use Rattle.hsm_rows.specs.Rules.{RowRules}
 use Rattle.hsm_rows.specs.declared.rules.ValueSource.{ValueSource}
 use Rattle.hsm_rows.specs.declared.rules.Words.{Words}
 use Rattle.hsm_rows.specs.declared.rules.Words.TheVariants.{NoWords, TwoPerPart, AsLength, FillOf}
 use Rattle.hsm_rows.specs.declared.rules.ValueSource.TheVariants.{NoValue, PvvOf, OffsetOf, CvvOf, MacOf}
+use Rattle.hsm_answers.specs.Read.{ReadMessage}
 use Rattle.hsm_answers.specs.Keys.{field_text, is_absent, set_of, scheme_at, type_of, lmk_key, wrapped_key, key_text}
 use Rattle.hsm_answers.specs.Draws.{drawn_key, drawn_fill}
 use Rattle.hsm_answers.specs.Pins.{digits_at, block_text, number_at, format_at, pin_of, given_pin, pin_account, fill_length}
@@ -57,35 +56,35 @@ parts_of_bytes zero bytes = []
 parts_of_bytes (suc n) bytes = take 8 bytes ∷ parts_of_bytes n (drop 8 bytes)
 
 -- the scheme of the key that the row makes
-abbrev pub made_scheme : RowRules → ReadText → Scheme
-made_scheme rules r = scheme_at r rules.made.scheme
+abbrev pub made_scheme : ReadMessage → Scheme
+made_scheme q = scheme_at q.read q.rules.made.scheme
 
 -- the number of parts of the key that the row makes
-abbrev pub made_parts : RowRules → ReadText → ℕ
-made_parts rules r = scheme_parts (made_scheme rules r)
+abbrev pub made_parts : ReadMessage → ℕ
+made_parts q = scheme_parts (made_scheme q)
 
 -- the key of the components: their exclusive-or, adjusted to odd parity
-unfoldable pub joined_key : RowRules → ReadText → List (List ℕ)
-joined_key rules r = parts_of_bytes (made_parts rules r) (adjusted (joined_bytes r rules.components))
+unfoldable pub joined_key : ReadMessage → List (List ℕ)
+joined_key q = parts_of_bytes (made_parts q) (adjusted (joined_bytes q.read q.rules.components))
 
 -- the key that a secret is; a drawn one has its words from the place on
-unfoldable pub secret_key : Module → RowRules → ReadText → ℕ → Secret → List (List ℕ)
-secret_key m rules r place (Opened k) = lmk_key m rules r k
-secret_key m rules r place (OpenedUnder k kek) = wrapped_key m rules r k kek
-secret_key m rules r place DrawnKey = drawn_key m place (made_parts rules r)
-secret_key m rules r place Joined = joined_key rules r
+unfoldable pub secret_key : ReadMessage → ℕ → Secret → List (List ℕ)
+secret_key q place (Opened k) = lmk_key q k
+secret_key q place (OpenedUnder k kek) = wrapped_key q k kek
+secret_key q place DrawnKey = drawn_key q.«module» place (made_parts q)
+secret_key q place Joined = joined_key q
 
 -- digits with F to 12 characters
 abbrev pub filled_to_twelve : List ℕ → List ℕ
 filled_to_twelve digits = map hex_character (digits ++ replicate (12 - length digits) 15)
 
 -- a key in the clear, in hexadecimal
-unfoldable pub shown_key : Module → RowRules → ReadText → ℕ → Secret → List ℕ
-shown_key m rules r place s = hex_of_bytes (key_bytes (secret_key m rules r place s))
+unfoldable pub shown_key : ReadMessage → ℕ → Secret → List ℕ
+shown_key q place s = hex_of_bytes (key_bytes (secret_key q place s))
 
 -- the row's PIN in the clear, with F to 12 characters
-unfoldable pub shown_pin : Module → RowRules → ReadText → ℕ → List ℕ
-shown_pin m rules r place = filled_to_twelve (pin_of m rules r place)
+unfoldable pub shown_pin : ReadMessage → ℕ → List ℕ
+shown_pin q place = filled_to_twelve (pin_of q place)
 
 -- a character of the validation data: the last 5 account digits stand for N
 abbrev pub validation_digit : List ℕ → ℕ → List ℕ
@@ -112,32 +111,32 @@ abbrev pub index_at : ReadText → ℕ → ℕ
 index_at r k = block_of (digits_at r k)
 
 -- the row's value of its PIN or data, as it is written
-unfoldable pub row_value : Module → RowRules → ReadText → ValueSource → List ℕ
-row_value m rules r NoValue = []
-row_value m rules r (PvvOf pair index) =
-    map hex_character (pvv (first_part (lmk_key m rules r pair)) (second_part (lmk_key m rules r pair)) (pin_account r rules.pin) (index_at r index) (given_pin m rules r))
-row_value m rules r (OffsetOf pvk table validation check) =
-    map hex_character (offset (natural_pin (lmk_key m rules r pvk) (digits_at r table) (validation_block (field_text r validation) (pin_account r rules.pin))) (given_pin m rules r) (number_at r check))
-row_value m rules r (CvvOf pair pan expiry service) =
-    map hex_character (cvv (first_part (lmk_key m rules r pair)) (second_part (lmk_key m rules r pair)) (pan_digits r pan) (digits_at r expiry) (digits_at r service))
-row_value m rules r (MacOf f) = if ends_message r f then mac_text m rules r f else []
+unfoldable pub row_value : ReadMessage → ValueSource → List ℕ
+row_value q NoValue = []
+row_value q (PvvOf pair index) =
+    map hex_character (pvv (first_part (lmk_key q pair)) (second_part (lmk_key q pair)) (pin_account q.read q.rules.pin) (index_at q.read index) (given_pin q))
+row_value q (OffsetOf pvk table validation check) =
+    map hex_character (offset (natural_pin (lmk_key q pvk) (digits_at q.read table) (validation_block (field_text q.read validation) (pin_account q.read q.rules.pin))) (given_pin q) (number_at q.read check))
+row_value q (CvvOf pair pan expiry service) =
+    map hex_character (cvv (first_part (lmk_key q pair)) (second_part (lmk_key q pair)) (pan_digits q.read pan) (digits_at q.read expiry) (digits_at q.read service))
+row_value q (MacOf f) = if ends_message q.read f then mac_text q f else []
 
 -- the chaining value, in modes 1 and 2
-unfoldable pub chain_value : Module → RowRules → ReadText → ValueSource → List ℕ
-chain_value m rules r (MacOf f) = if ends_message r f then [] else chain_text m rules r f
-chain_value m rules r _ = []
+unfoldable pub chain_value : ReadMessage → ValueSource → List ℕ
+chain_value q (MacOf f) = if ends_message q.read f then [] else chain_text q f
+chain_value q _ = []
 
 -- the random words of a message whose checks all pass
-unfoldable pub word_count : Module → RowRules → ReadText → Words → ℕ
-word_count m rules r NoWords = 0
-word_count m rules r (TwoPerPart k) = 2 * scheme_parts (scheme_at r k)
-word_count m rules r (AsLength k) = number_at r k
-word_count m rules r (FillOf k) = fill_length (format_at r k) (given_pin m rules r)
+unfoldable pub word_count : ReadMessage → Words → ℕ
+word_count q NoWords = 0
+word_count q (TwoPerPart k) = 2 * scheme_parts (scheme_at q.read k)
+word_count q (AsLength k) = number_at q.read k
+word_count q (FillOf k) = fill_length (format_at q.read k) (given_pin q)
 
 -- the block of the PIN in the format that field k names, its fill drawn from the place on
-abbrev pub translated_block : Module → RowRules → ReadText → ℕ → ℕ → ℕ
-translated_block m rules r place k =
-    block_of_pin (format_at r k) (given_pin m rules r) (pin_account r rules.pin) (drawn_fill m (format_at r k) place (fill_length (format_at r k) (given_pin m rules r)))
+abbrev pub translated_block : ReadMessage → ℕ → ℕ → ℕ
+translated_block q place k =
+    block_of_pin (format_at q.read k) (given_pin q) (pin_account q.read q.rules.pin) (drawn_fill q.«module» (format_at q.read k) place (fill_length (format_at q.read k) (given_pin q)))
 
 -- the letter of a note's kind
 abbrev pub kind_letter : Kind → List ℕ
@@ -191,35 +190,35 @@ numbers_text (granted.Seen moment place grants) = decimal moment ++ (codes " " +
 numbers_text _ = []
 
 -- the value of a reply term, for the answer at the entry
-unfoldable pub value_of : Module → RowRules → ReadText → Granted → Public → List ℕ
-value_of m rules r g (Given k) = field_text r k
-value_of m rules r g (Fixed text) = text.now
-value_of m rules r g (Sealed s) = key_text (wrap (set_of m) (type_of r rules.made.ty)) (made_scheme rules r) (secret_key m rules r (first_of g) s)
-value_of m rules r g (SealedUnder s kek) =
-    if is_absent r kek || is_absent r rules.made.wrap_scheme then []
-    else key_text (lmk_key m rules r kek) (scheme_at r rules.made.wrap_scheme) (secret_key m rules r (first_of g) s)
-value_of m rules r g (CheckValue s) = check_value (secret_key m rules r (first_of g) s)
-value_of m rules r g SealedPin = block_text (sealed_pin (set_of m) (pin_of m rules r (first_of g)) (pin_account r rules.pin))
-value_of m rules r g (BlockUnder format key) = block_text (enciphered (lmk_key m rules r key) (translated_block m rules r (first_of g) format))
-value_of m rules r g PinLength = two_digits (length (pin_of m rules r (first_of g)))
-value_of m rules r g Value = row_value m rules r rules.value
-value_of m rules r g Chain = chain_value m rules r rules.value
-value_of m rules r g LmkCheck = block_text (lmk_check (set_of m))
-value_of m rules r g LiveGrants = two_digits (length (live_of g))
-value_of m rules r g Hosts = two_digits m.hosts
-value_of m rules r g Done = []
-value_of m rules r g Cancelled = decimal (cancelled_of g)
-value_of m rules r g Grants = counted (map grant_text (live_of g))
-value_of m rules r g Numbers = numbers_text g
-value_of m rules r g Notes = counted (map note_text (notes_of g))
-value_of m rules r g (ShowKey s) = shown_key m rules r (first_of g) s
-value_of m rules r g ShowPin = shown_pin m rules r (first_of g)
+unfoldable pub value_of : ReadMessage → Granted → Public → List ℕ
+value_of q g (Given k) = field_text q.read k
+value_of q g (Fixed text) = text.now
+value_of q g (Sealed s) = key_text (wrap (set_of q) (type_of q.read q.rules.made.ty)) (made_scheme q) (secret_key q (first_of g) s)
+value_of q g (SealedUnder s kek) =
+    if is_absent q.read kek || is_absent q.read q.rules.made.wrap_scheme then []
+    else key_text (lmk_key q kek) (scheme_at q.read q.rules.made.wrap_scheme) (secret_key q (first_of g) s)
+value_of q g (CheckValue s) = check_value (secret_key q (first_of g) s)
+value_of q g SealedPin = block_text (sealed_pin (set_of q) (pin_of q (first_of g)) (pin_account q.read q.rules.pin))
+value_of q g (BlockUnder format key) = block_text (enciphered (lmk_key q key) (translated_block q (first_of g) format))
+value_of q g PinLength = two_digits (length (pin_of q (first_of g)))
+value_of q g Value = row_value q q.rules.value
+value_of q g Chain = chain_value q q.rules.value
+value_of q g LmkCheck = block_text (lmk_check (set_of q))
+value_of q g LiveGrants = two_digits (length (live_of g))
+value_of q g Hosts = two_digits q.«module».hosts
+value_of q g Done = []
+value_of q g Cancelled = decimal (cancelled_of g)
+value_of q g Grants = counted (map grant_text (live_of g))
+value_of q g Numbers = numbers_text g
+value_of q g Notes = counted (map note_text (notes_of g))
+value_of q g (ShowKey s) = shown_key q (first_of g) s
+value_of q g ShowPin = shown_pin q (first_of g)
 
 -- the value of a reply field
-abbrev pub value : Module → RowRules → ReadText → Granted → Term → List ℕ
-value m rules r g (plain_text t) = t
-value m rules r g (term t) = value_of m rules r g t
+abbrev pub value : ReadMessage → Granted → Term → List ℕ
+value q g (plain_text t) = t
+value q g (term t) = value_of q g t
 
 -- the values of the reply fields
-abbrev pub values : Module → RowRules → ReadText → Granted → List Term → List (List ℕ)
-values m rules r g ts = map (value m rules r g) ts
+abbrev pub values : ReadMessage → Granted → List Term → List (List ℕ)
+values q g ts = map (value q g) ts

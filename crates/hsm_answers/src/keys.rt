@@ -1,5 +1,5 @@
 //! Keys in the fields of a message.
-ghost use Rattle.std.specs.Prelude.{◌≡◌, true, ◌+◌, ◌*◌, ◌≤◌, ◌++◌, length, IsTrue, IfOk, IfErr, IfSome, Some, codes};
+ghost use Rattle.std.specs.Prelude.{◌≡◌, true, ◌+◌, ◌*◌, ◌<◌, ◌≤◌, ◌++◌, length, IsTrue, IfOk, IfErr, IfSome, Some, codes};
 ghost use Rattle.std.specs.List.{list_all};
 ghost use Rattle.std.specs.Option.{option_map};
 ghost use Rattle.std.specs.Char.{is_ascii_hexdigit};
@@ -8,6 +8,7 @@ ghost use Rattle.hsm_nibbles.specs.Characters.{bytes_of_hex};
 ghost use Rattle.hsm_text.specs.KeyTexts.{scheme_named, scheme_of};
 ghost use Rattle.hsm_lmk.specs.Cache.{Agrees, kept_all};
 ghost use Rattle.hsm_lmk.specs.Caches.{capacity_of, kept_in};
+ghost use Rattle.hsm_lmk.specs.Pairs.{set_at};
 ghost use Rattle.hsm_lmk.specs.Sealing.{wrap};
 ghost use Rattle.hsm_rows.specs.declared.rules.Under.TheVariants.{Lmk, KeyAt};
 ghost use Rattle.hsm_answers.specs.Keys.{key_of, differs, scheme_fault, length_fault, key_data_fault, given_fault, opened_key, type_of_code, wrapper_of, pair_type, flag_parts};
@@ -128,23 +129,25 @@ fn length_fails(asked: &Asked, parts: usize) -> bool
     !length_allowed(asked.ty, parts) || asked.wraps && parts == 1 || differs(asked.by_rule, parts)
 }
 
-// The key under the LMK pair of its type, or the first code that holds of it.
+// The key under the pair of its type in set n, or the first code that holds of it.
 #[tactic(auto, using(crate::proofs::Lengths::opened_length), unfolding(crate::specs::Keys::key_data_fault, hsm_lmk::specs::Opened::open_answer))]
 fn check_under_lmk(
     cache: &mut KeyCache,
-    set: &LmkSet,
+    sets: &[LmkSet],
+    n: u8,
     asked: &Asked,
     given: &KeyGiven,
 ) -> Result<Key, Code>
+    requires loaded { n < length sets.now }
     requires whole { length given.now.bytes.items ≡ 8 * scheme_parts given.now.scheme }
-    requires agrees { Agrees set.now (kept_in cache.old).entries }
-    ensures fault { code_in result ≡ key_data_fault (Some (wrap set.now asked.now.ty)) Lmk asked.now (Some (data_of given.now)) }
-    ensures key { IfOk result (λ key. key ≡ opened_key (wrap set.now asked.now.ty) (Some (data_of given.now))) }
+    requires agrees { Agrees sets.now (kept_in cache.old).entries }
+    ensures fault { code_in result ≡ key_data_fault (Some (wrap (set_at sets.now n) asked.now.ty)) Lmk asked.now (Some (data_of given.now)) }
+    ensures key { IfOk result (λ key. key ≡ opened_key (wrap (set_at sets.now n) asked.now.ty) (Some (data_of given.now))) }
     ensures long { IfOk result (λ key. asked.now.wraps ≡ true → 2 ≤ length key) }
     ensures scheme { IfOk result (λ key. IfSome asked.now.by_scheme (λ n. length key ≡ n)) }
-    ensures agrees { Agrees set.now (kept_in cache.new).entries }
+    ensures agrees { Agrees sets.now (kept_in cache.new).entries }
     ensures capacity { capacity_of cache.new ≡ capacity_of cache.old }
-    ensures kept { IfOk result (λ _. kept_in cache.new ≡ kept_all (capacity_of cache.old) (kept_in cache.old) (entry_for set.now asked.now.ty (Some (data_of given.now)))) }
+    ensures kept { IfOk result (λ _. kept_in cache.new ≡ kept_all (capacity_of cache.old) (kept_in cache.old) (entry_for sets.now n asked.now.ty (Some (data_of given.now)))) }
     ensures unkept { IfErr result (λ _. cache.new ≡ cache.old) }
 {
     if scheme_fails(asked, given.scheme) {
@@ -153,7 +156,14 @@ fn check_under_lmk(
     if length_fails(asked, scheme_parts(given.scheme)) {
         return Err(Code(27));
     }
-    match open_cached(cache, set, asked.ty, given.scheme, given.bytes.as_slice()) {
+    match open_cached(
+        cache,
+        sets,
+        n,
+        asked.ty,
+        given.scheme,
+        given.bytes.as_slice(),
+    ) {
         Ok(key) => Ok(key),
         Err(_) => Err(asked.parity),
     }
@@ -181,28 +191,30 @@ fn check_under_key(kek: &Key, at: u8, asked: &Asked, given: &KeyGiven) -> Result
     }
 }
 
-/// The key of a text under the LMK pair of its type, or the first code that holds of it: 26, 27, the parity code.
+/// The key of a text under the LMK pair of its type in set n, or the first code that holds of it: 26, 27, the parity code.
 /// 15 for a text that is no key text, which no field that reads has. A key that the cache keeps is not opened anew; another one
 /// without a fault is kept.
 #[tactic(auto, unfolding(crate::specs::Keys::key_data_fault))]
 pub fn check_lmk_key(
     cache: &mut KeyCache,
-    set: &LmkSet,
+    sets: &[LmkSet],
+    n: u8,
     asked: &Asked,
     text: &[u8],
 ) -> Result<Key, Code>
-    requires { Agrees set.now (kept_in cache.old).entries }
-    ensures fault { code_in result ≡ key_data_fault (Some (wrap set.now asked.now.ty)) Lmk asked.now (key_of text.now) }
-    ensures key { IfOk result (λ key. key ≡ opened_key (wrap set.now asked.now.ty) (key_of text.now)) }
+    requires loaded { n < length sets.now }
+    requires agrees { Agrees sets.now (kept_in cache.old).entries }
+    ensures fault { code_in result ≡ key_data_fault (Some (wrap (set_at sets.now n) asked.now.ty)) Lmk asked.now (key_of text.now) }
+    ensures key { IfOk result (λ key. key ≡ opened_key (wrap (set_at sets.now n) asked.now.ty) (key_of text.now)) }
     ensures long { IfOk result (λ key. asked.now.wraps ≡ true → 2 ≤ length key) }
     ensures scheme { IfOk result (λ key. IfSome asked.now.by_scheme (λ n. length key ≡ n)) }
-    ensures agrees { Agrees set.now (kept_in cache.new).entries }
+    ensures agrees { Agrees sets.now (kept_in cache.new).entries }
     ensures capacity { capacity_of cache.new ≡ capacity_of cache.old }
-    ensures kept { IfOk result (λ _. kept_in cache.new ≡ kept_all (capacity_of cache.old) (kept_in cache.old) (entry_for set.now asked.now.ty (key_of text.now))) }
+    ensures kept { IfOk result (λ _. kept_in cache.new ≡ kept_all (capacity_of cache.old) (kept_in cache.old) (entry_for sets.now n asked.now.ty (key_of text.now))) }
     ensures unkept { IfErr result (λ _. cache.new ≡ cache.old) }
 {
     match key_in(text) {
-        Some(given) => check_under_lmk(cache, set, asked, &given),
+        Some(given) => check_under_lmk(cache, sets, n, asked, &given),
         None => Err(Code(15)),
     }
 }

@@ -17,13 +17,14 @@ fn category_of(act: Act) -> Category
     }
 }
 
-/// The activity of an act on the type, at a host.
-pub fn host_activity(act: Act, ty: KeyType) -> Activity
-    ensures { result ≡ host_activity act ty }
+/// The activity of an act on the type, at a host, under the LMK set.
+pub fn host_activity(act: Act, ty: KeyType, set: u8) -> Activity
+    ensures { result ≡ host_activity act ty set }
 {
     Activity {
         category: category_of(act),
         ty: Some(ty),
         place: Some(Place::Host),
+        set: Some(set),
     }
 }

@@ -1,7 +1,7 @@
 //! What officers may allow, and how it is written.
 ghost use Rattle.std.specs.Prelude.{◌≡◌, ◌↔◌, ◌||◌, ◌++◌, ◌+◌, ◌≤◌, ℕ, List, length, Option, IsTrue, MatchOption, ◌≢◌, is_none, take, slice_index};
 ghost use Rattle.std.specs.Option.{option_eq};
-ghost use Rattle.hsm_auth.specs.Activities.{same_category, same_place, same_activity, covers, Allows, category_text, type_text, place_text, text_of, MayName, Names, activity_of};
+ghost use Rattle.hsm_auth.specs.Activities.{same_category, same_place, same_activity, covers, Allows, category_text, type_text, place_text, set_text, text_of, IsNamedSet, MayName, Names, activity_of};
 
 use arrayvec::ArrayVec;
 use hsm_types::{KeyType, by_code, code};
@@ -29,12 +29,15 @@ pub enum Place {
     Console,
 }
 
-/// An activity that officers may allow. Without a type it stands for every type, without a place for both places.
+/// An activity that officers may allow. Without a type it stands for every type, without a place for both places, and
+/// without a set for every LMK set.
 #[derive(Clone, Copy, Debug, Default, PartialEq, Eq)]
 pub struct Activity {
     pub category: Category,
     pub ty: Option<KeyType>,
     pub place: Option<Place>,
+    /// The number of an LMK set, 0 to 3. An activity of another number has no text that is read.
+    pub set: Option<u8>,
 }
 
 impl Category {
@@ -95,7 +98,7 @@ fn type_at(text: &[u8]) -> Option<KeyType>
 fn typed(category: Category, text: &[u8]) -> (Option<KeyType>, &[u8])
     ensures split { text.entry.now ≡ type_text result.0 ++ result.1.now }
     ensures may { MayName category result.0 }
-    ensures every { (t : Option KeyType) (p : Option Place) → MayName category t → text.entry.now ≡ type_text t ++ place_text p → result.0 ≡ t }
+    ensures every { (t : Option KeyType) (p : Option Place) (n : Option ℕ) → MayName category t → text.entry.now ≡ type_text t ++ (place_text p ++ set_text n) → result.0 ≡ t }
 {
     match type_at(text) {
         Some(ty) if category != Category::PinClear => (Some(ty), &text[4..]),
@@ -103,14 +106,30 @@ fn typed(category: Category, text: &[u8]) -> (Option<KeyType>, &[u8])
     }
 }
 
-// The place that the whole text names. The empty text names none.
-fn place_of(text: &[u8]) -> Option<Option<Place>>
-    ensures { (p : Option Place) → (result ≡ Some p) ↔ (text.now ≡ place_text p) }
+// The place that the text names at its front, and what follows it.
+fn placed(text: &[u8]) -> (Option<Place>, &[u8])
+    ensures split { text.entry.now ≡ place_text result.0 ++ result.1.now }
+    ensures every { (p : Option Place) (n : Option ℕ) → text.entry.now ≡ place_text p ++ set_text n → result.0 ≡ p }
+{
+    if let Some(rest) = after(text, b".host") {
+        return (Some(Place::Host), rest);
+    }
+    match after(text, b".console") {
+        Some(rest) => (Some(Place::Console), rest),
+        None => (None, text),
+    }
+}
+
+// The set that the whole text names. The empty text names none.
+fn set_of(text: &[u8]) -> Option<Option<u8>>
+    ensures { (n : Option ℕ) → (result ≡ Some n) ↔ (IsNamedSet n × (text.now ≡ set_text n)) }
 {
     match text {
         b"" => Some(None),
-        b".host" => Some(Some(Place::Host)),
-        b".console" => Some(Some(Place::Console)),
+        b".lmk00" => Some(Some(0)),
+        b".lmk01" => Some(Some(1)),
+        b".lmk02" => Some(Some(2)),
+        b".lmk03" => Some(Some(3)),
         _ => None,
     }
 }
@@ -121,11 +140,13 @@ fn activity_at(text: &[u8]) -> Option<Activity>
 {
     let (category, rest) = category_at(text)?;
     let (ty, rest) = typed(category, rest);
-    let place = place_of(rest)?;
+    let (place, rest) = placed(rest);
+    let set = set_of(rest)?;
     Some(Activity {
         category,
         ty,
         place,
+        set,
     })
 }
 
@@ -161,9 +182,20 @@ fn put_place(text: &mut Text, place: Option<Place>)
     }
 }
 
+fn put_set(text: &mut Text, set: Option<u8>)
+    requires { length text.old.items + 6 ≤ MAX_TEXT }
+    ensures put { text.new.items ≡ text.old.items ++ set_text set }
+{
+    if let Some(set) = set {
+        put(text, b".lmk");
+        put(text, &[b'0' + set / 10, b'0' + set % 10]);
+    }
+}
+
 impl Activity {
-    /// The activity that the text names: a category, a point and a type code unless the category is `pin.clear`, a point and a place.
-    /// Type and place may lack. None exactly where no activity has the text.
+    /// The activity that the text names: a category; a point and a type code unless the category is `pin.clear`; a point
+    /// and a place; and `.lmk` with the two digits of a set, 00 to 03. Type, place and set may lack. None exactly where no
+    /// activity has the text.
     pub fn read(text: &[u8]) -> Option<Activity>
         ensures named { (a : Activity) → (result ≡ Some a) ↔ Names text.now a }
         ensures value { result ≡ activity_of text.now }
@@ -172,7 +204,8 @@ impl Activity {
     }
 
     /// The text of the activity, as `read` reads it. It takes no memory.
-    /// An activity of `pin.clear` with a type, which no text names, is written with its type in the type's place.
+    /// An activity of `pin.clear` with a type, which no text names, is written with its type in the type's place, and a set
+    /// from 4 on, which no text names, with its digits.
     pub fn text(&self) -> ArrayVec<u8, MAX_TEXT>
         ensures { result.items ≡ text_of self.now }
     {
@@ -180,6 +213,7 @@ impl Activity {
         put(&mut text, self.category.word());
         put_type(&mut text, self.ty);
         put_place(&mut text, self.place);
+        put_set(&mut text, self.set);
         text
     }
 
@@ -200,10 +234,14 @@ fn allows<T: Copy + PartialEq>(grant: Option<T>, need: Option<T>) -> bool
 }
 
 /// Whether a grant of the one activity covers a need of the other:
-/// the categories are equal, and what the grant names of type and place the need names too.
+/// the categories are equal, and what the grant names of type, place and set the need names too.
 pub fn covers(grant: &Activity, need: &Activity) -> bool
     ensures value { result ≡ covers grant.now need.now }
     ensures allowed { IsTrue result ↔ Allows grant.now need.now }
 {
-    grant.category == need.category && allows(grant.ty, need.ty) && allows(grant.place, need.place)
+    let set = allows(grant.set, need.set);
+    grant.category == need.category
+        && allows(grant.ty, need.ty)
+        && allows(grant.place, need.place)
+        && set
 }

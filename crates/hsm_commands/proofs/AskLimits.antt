@@ -30,7 +30,6 @@ use Rattle.hsm_rows.specs.declared.row.Code.{Code}
 use Rattle.hsm_rows.specs.declared.row.Field.{Field}
 use Rattle.hsm_rows.specs.Forms.{decimal_from, is_minutes}
 use Rattle.hsm_rows.specs.Reading.{ReadText, is_console, reading}
-use Rattle.hsm_rows.specs.Rules.{RowRules}
 use Rattle.hsm_rows.specs.Standing.{AreTexts, AreTextsOrAbsent, IsLength}
 use Rattle.hsm_rows.specs.Table.{RowShape, rules_of}
 use Rattle.hsm_rows.specs.declared.rules.AskKind.{AskKind}
@@ -41,6 +40,7 @@ use Rattle.hsm_rows.specs.declared.rules.DataCheck.{DataCheck}
 use Rattle.hsm_rows.specs.declared.rules.DataCheck.TheVariants.{TableCheck, PinCheck, LongerThan, ShorterThan, MacCheck}
 use Rattle.hsm_rows.specs.declared.rules.PinSource.{PinSource}
 use Rattle.hsm_rows.specs.declared.rules.PinSource.TheVariants.{NoPin, BlockPin, LmkPin, ClearPin, DrawnPin}
+use Rattle.hsm_answers.specs.Read.{ReadMessage, read_by, message_in}
 use Rattle.hsm_answers.specs.Keys.{field_text, first_code, scheme_at}
 use Rattle.hsm_answers.specs.Pins.{block_fault_code, clear_digits, digits_at, fill_length, format_at, given_pin, lmk_block, pin_fault, pin_from, sent_block}
 use Rattle.hsm_answers.specs.Values.{word_count}
@@ -102,17 +102,17 @@ some_clear n true is none = absurd (cc)
 some_clear n false is none = grind (arith, nat_tests)
 
 -- a PIN that is given without a fault has some digits
-some_digits : (m : Module) (rules : RowRules) (r : ReadText) (source : PinSource) → gives_pin source ≡ true → pin_fault m rules r source ≡ None
-    → 2 ≤ length (pin_from m rules r 0 source)
+some_digits : (q : ReadMessage) (source : PinSource) → gives_pin source ≡ true → pin_fault q source ≡ None
+    → 2 ≤ length (pin_from q 0 source)
 unfolding pin_fault pin_from
-some_digits m rules r (BlockPin block key format account) gives none =
-    let at = format_at r format in
-    two_digits at (sent_block m rules r block key) (digits_at r account) (no_block_fault (blockfault at (sent_block m rules r block key) (digits_at r account)) none)
-some_digits m rules r (LmkPin text account) gives none =
-    two_digits F01 (lmk_block m r text) (digits_at r account) (no_sealed_fault (blockfault F01 (lmk_block m r text) (digits_at r account)) none)
-some_digits m rules r (ClearPin text account) gives none = some_clear (length (clear_digits r text)) (nat_lt (length (clear_digits r text)) 4) refl none
-some_digits m rules r NoPin gives none = absurd (cc)
-some_digits m rules r (DrawnPin len account) gives none = absurd (cc)
+some_digits q (BlockPin block key format account) gives none =
+    let at = format_at q.read format in
+    two_digits at (sent_block q block key) (digits_at q.read account) (no_block_fault (blockfault at (sent_block q block key) (digits_at q.read account)) none)
+some_digits q (LmkPin text account) gives none =
+    two_digits F01 (lmk_block q text) (digits_at q.read account) (no_sealed_fault (blockfault F01 (lmk_block q text) (digits_at q.read account)) none)
+some_digits q (ClearPin text account) gives none = some_clear (length (clear_digits q.read text)) (nat_lt (length (clear_digits q.read text)) 4) refl none
+some_digits q NoPin gives none = absurd (cc)
+some_digits q (DrawnPin len account) gives none = absurd (cc)
 
 -- the first code of no fault
 first_none : (first : Option ℕ) (more : List (Option ℕ)) → first_code (first ∷ more) ≡ None → first ≡ None
@@ -124,15 +124,15 @@ rest_none None more none = none
 rest_none (Some code) more none = absurd (cc)
 
 -- a PIN that the data checks leave has no fault where none of them finds something
-pin_sound : (m : Module) (rules : RowRules) (r : ReadText) (checks : List DataCheck) → pin_at_end false checks ≡ true
-    → first_code (map (data_fault m rules r) checks) ≡ None → pin_fault m rules r rules.pin ≡ None
+pin_sound : (q : ReadMessage) (checks : List DataCheck) → pin_at_end false checks ≡ true
+    → first_code (map (data_fault q) checks) ≡ None → pin_fault q q.rules.pin ≡ None
 unfolding data_fault
-pin_sound m rules r [] there none = absurd (cc)
-pin_sound m rules r (PinCheck ∷ more) there none = first_none (pin_fault m rules r rules.pin) (map (data_fault m rules r) more) none
-pin_sound m rules r (TableCheck k ∷ more) there none = pin_sound m rules r more there (rest_none (data_fault m rules r (TableCheck k)) (map (data_fault m rules r) more) none)
-pin_sound m rules r (LongerThan k ∷ more) there none = pin_sound m rules r more there (rest_none (data_fault m rules r (LongerThan k)) (map (data_fault m rules r) more) none)
-pin_sound m rules r (ShorterThan k ∷ more) there none = pin_sound m rules r more there (rest_none (data_fault m rules r (ShorterThan k)) (map (data_fault m rules r) more) none)
-pin_sound m rules r (MacCheck f ∷ more) there none = pin_sound m rules r more there (rest_none (data_fault m rules r (MacCheck f)) (map (data_fault m rules r) more) none)
+pin_sound q [] there none = absurd (cc)
+pin_sound q (PinCheck ∷ more) there none = first_none (pin_fault q q.rules.pin) (map (data_fault q) more) none
+pin_sound q (TableCheck k ∷ more) there none = pin_sound q more there (rest_none (data_fault q (TableCheck k)) (map (data_fault q) more) none)
+pin_sound q (LongerThan k ∷ more) there none = pin_sound q more there (rest_none (data_fault q (LongerThan k)) (map (data_fault q) more) none)
+pin_sound q (ShorterThan k ∷ more) there none = pin_sound q more there (rest_none (data_fault q (ShorterThan k)) (map (data_fault q) more) none)
+pin_sound q (MacCheck f ∷ more) there none = pin_sound q more there (rest_none (data_fault q (MacCheck f)) (map (data_fault q) more) none)
 
 -- two words for each part of a key
 two_parts : (scheme : Scheme) → 2 * scheme_parts scheme ≤ 12
@@ -151,22 +151,22 @@ fill_most F05 pin some = omega (arith, some)
 fill_most F47 pin some = omega (arith, some)
 
 -- the words of a message of which no late check fails
-few_words : (m : Module) (rules : RowRules) (fs : List Field) (r : ReadText) (words : Words) → AreRead fs r.texts
-    → meets_all fs rules (word_demands rules words) ≡ true → late_fault m rules r ≡ None → word_count m rules r words ≤ 12
+few_words : (q : ReadMessage) (fs : List Field) (words : Words) → AreRead fs q.read.texts
+    → meets_all fs q.rules (word_demands q.rules words) ≡ true → late_fault q ≡ None → word_count q words ≤ 12
 unfolding word_count late_fault checks_fault
-few_words m rules fs r NoWords texts fit passed = omega arith
-few_words m rules fs r (TwoPerPart k) texts fit passed = two_parts (scheme_at r k)
-few_words m rules fs r (AsLength k) texts fit passed = (text_is is_length IsLength length_means fs r.texts k texts (and_parts _ _ fit).0).most
-few_words m rules fs r (FillOf k) texts fit passed =
-    let holds = and_parts (gives_pin rules.pin) (pin_at_end false rules.checks) (and_parts _ _ fit).0 in
-    let checked = first_none (checks_fault m rules r) (compared_fault m rules r rules.compared ∷ []) passed in
-    fill_most (format_at r k) (given_pin m rules r) (some_digits m rules r rules.pin holds.0 (pin_sound m rules r rules.checks holds.1 checked))
+few_words q fs NoWords texts fit passed = omega arith
+few_words q fs (TwoPerPart k) texts fit passed = two_parts (scheme_at q.read k)
+few_words q fs (AsLength k) texts fit passed = (text_is is_length IsLength length_means fs q.read.texts k texts (and_parts _ _ fit).0).most
+few_words q fs (FillOf k) texts fit passed =
+    let holds = and_parts (gives_pin q.rules.pin) (pin_at_end false q.rules.checks) (and_parts _ _ fit).0 in
+    let checked = first_none (checks_fault q) (compared_fault q q.rules.compared ∷ []) passed in
+    fill_most (format_at q.read k) (given_pin q) (some_digits q q.rules.pin holds.0 (pin_sound q q.rules.checks holds.1 checked))
 
-asked_few : (m : Module) (rules : RowRules) (r : ReadText) → (late_fault m rules r ≡ None → word_count m rules r rules.words ≤ 12) → asked_words m rules r ≤ 12
+asked_few : (q : ReadMessage) → (late_fault q ≡ None → word_count q q.rules.words ≤ 12) → asked_words q ≤ 12
 unfolding asked_words
-asked_few m rules r few = go (late_fault m rules r) refl
+asked_few q few = go (late_fault q) refl
   where
-    go : (fault : Option ℕ) → late_fault m rules r ≡ fault → (if is_some fault then 0 else word_count m rules r rules.words) ≤ 12
+    go : (fault : Option ℕ) → late_fault q ≡ fault → (if is_some fault then 0 else word_count q q.rules.words) ≤ 12
     go None is = few is
     go (Some code) is = omega arith
 
@@ -192,15 +192,15 @@ cancelled true named = tt
 cancelled false None = omega arith
 cancelled false (Some activity) = tt
 
-row_asks : (m : Module) (rules : RowRules) (r : ReadText) (kind : AskKind) → asked_words m rules r ≤ 12 → AskStands r kind → CanAsk (row_ask m rules r kind)
+row_asks : (q : ReadMessage) (kind : AskKind) → asked_words q ≤ 12 → AskStands q.read kind → CanAsk (row_ask q kind)
 unfolding row_ask
-row_asks m rules r UseAsk few stands = few
-row_asks m rules r LookAsk few stands = tt
-row_asks m rules r RecentAsk few stands = tt
-row_asks m rules r CancelAllAsk few stands = tt
-row_asks m rules r AuthoriseAsk few stands =
-    authorised (words_hold m r) (activity_of (field_text r 0)) (decimal_from 0 (field_text r 1)) (minutes_most (field_text r 1) stands)
-row_asks m rules r CancelAsk few stands = cancelled (bytes_eq (field_text r 0) (codes "*")) (activity_of (field_text r 0))
+row_asks q UseAsk few stands = few
+row_asks q LookAsk few stands = tt
+row_asks q RecentAsk few stands = tt
+row_asks q CancelAllAsk few stands = tt
+row_asks q AuthoriseAsk few stands =
+    authorised (words_hold q) (activity_of (field_text q.read 0)) (decimal_from 0 (field_text q.read 1)) (minutes_most (field_text q.read 1) stands)
+row_asks q CancelAsk few stands = cancelled (bytes_eq (field_text q.read 0) (codes "*")) (activity_of (field_text q.read 0))
 
 -- what the texts of a row's fields are
 abbrev pub TextsAre : Type 0
@@ -214,14 +214,13 @@ pub asks_within : TextsAre → ConsoleTextsAre → (m : Module) (row : RowShape)
 unfolding ask_of ask_read rules_fit
 asks_within host console m row text fit = go (reading row text) refl
   where
-    by : (r : ReadText) → AreRead row.fields r.texts → (failed : Bool) → CanAsk (if failed then empty_ask else row_ask m (rules_of row) r (rules_of row).ask)
+    by : (r : ReadText) → AreRead row.fields r.texts → (failed : Bool) → CanAsk (if failed then empty_ask else row_ask (read_by m row r) (rules_of row).ask)
     by r texts true = omega arith
     by r texts false =
-        let rules = rules_of row in
-        row_asks m rules r rules.ask
-        (asked_few m rules r (few_words m rules row.fields r rules.words texts (each_test row.fields rules row.terms (and_parts _ _ fit).1).words))
+        let q = read_by m row r in
+        row_asks q q.rules.ask (asked_few q (few_words q row.fields q.rules.words texts (each_test row.fields q.rules row.terms (and_parts _ _ fit).1).words))
         ((fits_followed row fit).stands m r texts).ask
 
-    go : (read : Result ReadText Code) → reading row text ≡ read → CanAsk (ask_read m (rules_of row) read)
+    go : (read : Result ReadText Code) → reading row text ≡ read → CanAsk (ask_read (message_in m row read))
     go (Err code) is = omega arith
-    go (Ok r) is = by r (are_read row r (λ side. host row text r side is) (λ side. console row text r side is)) (is_some (early_fault m (rules_of row) r))
+    go (Ok r) is = by r (are_read row r (λ side. host row text r side is) (λ side. console row text r side is)) (is_some (early_fault (read_by m row r)))

@@ -25,11 +25,14 @@ each_read P same (f ∷ fs) e k texts all = (same f.form e (text_at texts k) all
 
 text_read : (f : Form) (e : List (List ℕ)) (t : List ℕ) → IsText f e t → IsRead f e t
 text_read (form.LastComponent scheme) e t h = inr h
+text_read form.SetNumber e t h = inr h
 text_read _ e t h = h
 
 absent_read : (f : Form) (e : List (List ℕ)) (t : List ℕ) → IsTextOrAbsent f e t → IsRead f e t
 absent_read (form.LastComponent scheme) e t (inl h) = inr h
 absent_read (form.LastComponent scheme) e t (inr h) = inl h.0
+absent_read form.SetNumber e t (inl h) = inr h
+absent_read form.SetNumber e t (inr h) = inl h.0
 absent_read _ e t (inl h) = h
 absent_read _ e t (inr h) = let n : false ≡ true = h.1.1 in let z : ⊥ = cc in absurd z
 

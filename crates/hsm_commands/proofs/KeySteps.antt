@@ -5,12 +5,11 @@ use Rattle.hsm_lmk.specs.Sealing.{wrap}
 use Rattle.hsm_types.specs.declared.types.KeyType.{KeyType}
 use Rattle.hsm_types.specs.Schemes.{scheme_parts}
 use Rattle.hsm_text.specs.KeyTexts.{scheme_of}
-use Rattle.hsm_rows.specs.declared.settings.Module.{Module}
 use Rattle.hsm_rows.specs.declared.rules.Under.TheVariants.{Lmk}
-use Rattle.hsm_rows.specs.Rules.{RowRules}
-use Rattle.hsm_rows.specs.Reading.{ReadText, is_end}
+use Rattle.hsm_rows.specs.Reading.{is_end}
+use Rattle.hsm_answers.specs.Read.{ReadMessage}
 use Rattle.hsm_answers.specs.declared.keys.Asked.{Asked}
-use Rattle.hsm_answers.specs.Keys.{field_text, source_at, lmk_key, type_of, key_of, opened_key, key_data_fault, differs, KeyData, scheme_fault, length_fault}
+use Rattle.hsm_answers.specs.Keys.{field_text, set_of, source_at, lmk_key, type_of, key_of, opened_key, key_data_fault, differs, KeyData, scheme_fault, length_fault}
 use Rattle.hsm_lmk.specs.Opened.{opened, all_odd}
 use Rattle.hsm_answers.proofs.Lengths.{opened_length}
 use Rattle.hsm_answers.proofs.PairLengths.{key_parts}
@@ -42,16 +41,16 @@ there k true key h = cc
 there k false key h = refl
 
 -- a key that was opened under the LMK pair of its type is the field's
-pub lmk_holds : (m : Module) (rules : RowRules) (r : ReadText) (k : ℕ) (a : Asked) (key : List (List ℕ))
-    → type_of r (source_at k rules.keys) ≡ a.ty → (a.wraps && is_end (field_text r k)) ≡ false
-    → None ≡ key_data_fault (Some (wrap m.lmk a.ty)) Lmk a (key_of (field_text r k))
-    → key ≡ opened_key (wrap m.lmk a.ty) (key_of (field_text r k)) → (a.wraps ≡ true → 2 ≤ length key) → IfSome a.by_scheme (λ n. length key ≡ n)
-    → IsLmkKey m rules r k a (field_key k key)
+pub lmk_holds : (q : ReadMessage) (k : ℕ) (a : Asked) (key : List (List ℕ))
+    → type_of q.read (source_at k q.rules.keys) ≡ a.ty → (a.wraps && is_end (field_text q.read k)) ≡ false
+    → None ≡ key_data_fault (Some (wrap (set_of q) a.ty)) Lmk a (key_of (field_text q.read k))
+    → key ≡ opened_key (wrap (set_of q) a.ty) (key_of (field_text q.read k)) → (a.wraps ≡ true → 2 ≤ length key) → IfSome a.by_scheme (λ n. length key ≡ n)
+    → IsLmkKey q k a (field_key k key)
 unfolding lmk_key
-lmk_holds m rules r k a key source left fault opens long scheme =
-    let w = wrap m.lmk a.ty in
-    let text = field_text r k in
-    let same : key ≡ lmk_key m rules r k = opens ∙ ap (λ (t : KeyType). opened_key (wrap m.lmk t) (key_of text)) (sym source) in
+lmk_holds q k a key source left fault opens long scheme =
+    let w = wrap (set_of q) a.ty in
+    let text = field_text q.read k in
+    let same : key ≡ lmk_key q k = opens ∙ ap (λ (t : KeyType). opened_key (wrap (set_of q) t) (key_of text)) (sym source) in
     let parts : length key ≡ scheme_parts (scheme_of text) = ap length opens ∙ key_parts w a text (sym fault) in
     let k_of = key_of text in
     let differ : differs a.by_rule (length key) ≡ false = ap (λ (x : List (List ℕ)). differs a.by_rule (length x)) opens ∙ rule_holds w a k_of fault in

@@ -18,3 +18,4 @@ pub mod HexSteps
 pub mod MacLaws
 pub mod TableRows
 pub mod KeptLaws
+pub mod SetSteps

@@ -8,14 +8,13 @@ use Rattle.hsm_mac.specs.Macs.{fills_blocks, is_bare, is_length}
 use Rattle.hsm_nibbles.specs.Characters.{bytes_of_hex}
 use Rattle.hsm_rows.specs.declared.rules.MacFields.{MacFields}
 use Rattle.hsm_rows.specs.Reading.{ReadText, is_end}
+use Rattle.hsm_answers.specs.Read.{ReadMessage}
 use Rattle.hsm_answers.specs.Keys.{field_text}
 use Rattle.hsm_answers.specs.Macs.{mac_fault, mac_data, mac_padding}
 use Rattle.hsm_mac.specs.declared.Alg.{Alg}
 use Rattle.hsm_mac.specs.Macs.{mac, chained, blocks_of, padded}
 use Rattle.hsm_nibbles.specs.Nibbles.{block_of}
 use Rattle.hsm_nibbles.specs.Characters.{digit_value}
-use Rattle.hsm_rows.specs.declared.settings.Module.{Module}
-use Rattle.hsm_rows.specs.Rules.{RowRules}
 use Rattle.hsm_answers.specs.Keys.{lmk_key}
 use Rattle.hsm_answers.specs.Macs.{is_only, mac_algorithm, mac_start}
 use Rattle.hsm_commands.specs.declared.mac.Part.TheVariants.{Only, Last, Open}
@@ -129,19 +128,19 @@ open_value true three key alg pad bytes start h = absurd (cc)
 open_value false true key alg pad bytes start h = absurd (cc)
 open_value false false key alg pad bytes start h = refl
 
-module _ (m : Module) (rules : RowRules) (r : ReadText) (f : MacFields) where
+module _ (q : ReadMessage) (f : MacFields) where
   -- the MAC
-  pub mac_is : (is_only r f ≡ true → field_text r f.chain ≡ []) → ends_by (field_text r f.mode) ≡ true
-      → value_under (lmk_key m rules r f.key) r f ≡ mac (lmk_key m rules r f.key) (mac_algorithm r f) (mac_start r f) (blocks_of (padded (mac_padding r f) (mac_data r f)))
+  pub mac_is : (is_only q.read f ≡ true → field_text q.read f.chain ≡ []) → ends_by (field_text q.read f.mode) ≡ true
+      → value_under (lmk_key q f.key) q.read f ≡ mac (lmk_key q f.key) (mac_algorithm q.read f) (mac_start q.read f) (blocks_of (padded (mac_padding q.read f) (mac_data q.read f)))
   mac_is whole ends =
-      let start : ℕ = mac_start r f in
-      let zero : is_only r f ≡ true → start ≡ 0 = λ h. ap (λ (t : List ℕ). if is_end t then 0 else block_of (map digit_value t)) (whole h) in
-      ends_value (bytes_eq (field_text r f.mode) (codes "0")) (bytes_eq (field_text r f.mode) (codes "3")) (lmk_key m rules r f.key)
-      (mac_algorithm r f) (mac_padding r f) (mac_data r f) start ends zero
+      let start : ℕ = mac_start q.read f in
+      let zero : is_only q.read f ≡ true → start ≡ 0 = λ h. ap (λ (t : List ℕ). if is_end t then 0 else block_of (map digit_value t)) (whole h) in
+      ends_value (bytes_eq (field_text q.read f.mode) (codes "0")) (bytes_eq (field_text q.read f.mode) (codes "3")) (lmk_key q f.key)
+      (mac_algorithm q.read f) (mac_padding q.read f) (mac_data q.read f) start ends zero
 
   -- the chaining value
-  pub chain_is : ends_by (field_text r f.mode) ≡ false
-      → value_under (lmk_key m rules r f.key) r f ≡ chained (mac_algorithm r f) (lmk_key m rules r f.key) (mac_start r f) (blocks_of (mac_data r f))
+  pub chain_is : ends_by (field_text q.read f.mode) ≡ false
+      → value_under (lmk_key q f.key) q.read f ≡ chained (mac_algorithm q.read f) (lmk_key q f.key) (mac_start q.read f) (blocks_of (mac_data q.read f))
   chain_is goes =
-      open_value (bytes_eq (field_text r f.mode) (codes "0")) (bytes_eq (field_text r f.mode) (codes "3")) (lmk_key m rules r f.key)
-      (mac_algorithm r f) (mac_padding r f) (mac_data r f) (mac_start r f) goes
+      open_value (bytes_eq (field_text q.read f.mode) (codes "0")) (bytes_eq (field_text q.read f.mode) (codes "3")) (lmk_key q f.key)
+      (mac_algorithm q.read f) (mac_padding q.read f) (mac_data q.read f) (mac_start q.read f) goes

@@ -4,8 +4,9 @@ use Rattle.std.specs.Prelude.{is_none, if◌then◌else◌, Result, Ok, Err}
 use Rattle.hsm_auth.specs.declared.entry.Granted.{Granted}
 use Rattle.hsm_rows.specs.declared.settings.Module.{Module}
 use Rattle.hsm_rows.specs.declared.row.Code.{Code}
-use Rattle.hsm_rows.specs.Table.{RowShape, rules_of}
+use Rattle.hsm_rows.specs.Table.{RowShape}
 use Rattle.hsm_rows.specs.Reading.{ReadText, reading}
+use Rattle.hsm_answers.specs.Read.{read_by, message_in}
 use Rattle.hsm_answers.specs.declared.plans.Checked.{Checked}
 use Rattle.hsm_answers.specs.declared.plans.Checked.TheVariants.{Unread, Failed, Passed}
 use Rattle.hsm_answers.specs.Keys.{first_code}
@@ -54,11 +55,11 @@ module _ (m : Module) (row : RowShape) (text : List ℕ) where
       → IsPlanned m row text ask checked [] fields
   unfolding ask_of ask_read
   unread_planned ask checked code fields e a h =
-      let C : Result ReadText Code → Type 0 = λ x. IsChecked m row x (Unread code) [] in
-      let F : Granted → Result ReadText Code → Type 0 = λ g x. AreFields m row x (Unread code) g (fields g) in
+      let C : Result ReadText Code → Type 0 = λ x. IsChecked (message_in m row x) (Unread code) [] in
+      let F : Granted → Result ReadText Code → Type 0 = λ g x. AreFields row (message_in m row x) (Unread code) g (fields g) in
       let P : Ask → Checked → Type 0 = λ x y. IsPlanned m row text x y [] fields in
       let planned : P empty_ask (Unread code) = record {
-        asked = sym (ap (ask_read m (rules_of row)) e);
+        asked = sym (ap (λ (x : Result ReadText Code). ask_read (message_in m row x)) e);
         may = omega arith;
         checks = subst C (sym e) (refl, refl);
         short = omega arith;
@@ -66,19 +67,19 @@ module _ (m : Module) (row : RowShape) (text : List ℕ) where
       } in
       subst (λ x. P ask x) (sym h) (subst (λ x. P x (Unread code)) (sym a) planned)
 
-  checked_is : (r : ReadText) (checked : Checked) → AreChecked m (rules_of row) r checked → IsChecked m row (Ok r) checked r.trailer
+  checked_is : (r : ReadText) (checked : Checked) → AreChecked (read_by m row r) checked → IsChecked (Ok (read_by m row r)) checked r.trailer
   checked_is r (Unread code) h = absurd h
   checked_is r (Failed code) h = record { fault = h; rest = refl }
   checked_is r (Passed late) h = record { early = h.0; late = h.1; rest = refl }
 
-  pub read_planned : (ask : Ask) (checked : Checked) (r : ReadText) → reading row text ≡ Ok r → ask ≡ ask_read m (rules_of row) (Ok r) → CanAsk ask
-      → AreChecked m (rules_of row) r checked → length r.trailer ≤ 33 → IsPlanned m row text ask checked r.trailer (λ g. fields_text m (rules_of row) row g r)
+  pub read_planned : (ask : Ask) (checked : Checked) (r : ReadText) → reading row text ≡ Ok r → ask ≡ ask_read (Ok (read_by m row r)) → CanAsk ask
+      → AreChecked (read_by m row r) checked → length r.trailer ≤ 33 → IsPlanned m row text ask checked r.trailer (fields_text row (read_by m row r))
   unfolding ask_of
   read_planned ask checked r e a may h short =
-      let C : Result ReadText Code → Type 0 = λ x. IsChecked m row x checked r.trailer in
-      let F : Granted → Result ReadText Code → Type 0 = λ g x. AreFields m row x checked g (fields_text m (rules_of row) row g r) in
+      let C : Result ReadText Code → Type 0 = λ x. IsChecked (message_in m row x) checked r.trailer in
+      let F : Granted → Result ReadText Code → Type 0 = λ g x. AreFields row (message_in m row x) checked g (fields_text row (read_by m row r) g) in
       record {
-        asked = a ∙ sym (ap (ask_read m (rules_of row)) e);
+        asked = a ∙ sym (ap (λ (x : Result ReadText Code). ask_read (message_in m row x)) e);
         may = may;
         checks = subst C (sym e) (checked_is r checked h);
         short = short;
@@ -86,9 +87,10 @@ module _ (m : Module) (row : RowShape) (text : List ℕ) where
       }
 
 -- what is held is what the reply fields need
-pub ready_is : (m : Module) (row : RowShape) (followed : IsFollowed row) (r : ReadText) → AreRead row.fields r.texts → (held : HeldParts) → IsHeld m (rules_of row) r held
-    → IsReady m (rules_of row) row.terms r held
+pub ready_is : (m : Module) (row : RowShape) (followed : IsFollowed row) (r : ReadText) → AreRead row.fields r.texts → (held : HeldParts) → IsHeld (read_by m row r) held
+    → IsReady (read_by m row r) row.terms held
 ready_is m row followed r texts held h = record {
+  loaded = h.loaded;
   pin = ((followed.stands m r texts).steps held.keys h.keys).pin;
   left = h.left;
   fields = followed.terms m r texts held.keys h.keys;

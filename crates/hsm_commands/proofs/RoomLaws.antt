@@ -20,13 +20,13 @@ whole : List (List ℕ) → ℕ
 whole [] = 0
 whole (t ∷ ts) = length t + whole ts
 
-reads_within : (console : Bool) (fields : List Field) (earlier : List (List ℕ)) (text : List ℕ) (texts : List (List ℕ)) (trailer : List ℕ)
-    → Reads console fields earlier text texts trailer
-    → whole texts + length trailer ≤ length text
+reads_within : (console : Bool) (fields : List Field) (earlier : List (List ℕ)) (text : List ℕ) (texts : List (List ℕ)) (ending : List ℕ)
+    → Reads console fields earlier text texts ending
+    → whole texts + length ending ≤ length text
 unfolding whole
-reads_within console fields earlier text texts trailer (at_end h) = omega arith
-reads_within console fields earlier text texts trailer
-    (one_more {fs = fs} {earlier = before} {texts = more} {space = space} {t = t} {rest = rest} {trailer = tail} placed reads) =
+reads_within console fields earlier text texts ending at_end = omega arith
+reads_within console fields earlier text texts ending
+    (one_more {fs = fs} {earlier = before} {texts = more} {space = space} {t = t} {rest = rest} {ending = tail} placed reads) =
     let h = reads_within console fs (before ++ t ∷ []) rest more tail reads in
     omega (arith, length-append space (t ++ rest), length-append t rest)
 
@@ -39,7 +39,8 @@ two_texts (a ∷ b ∷ more) = let h : length a + length b ≤ length a + (lengt
 -- the first two texts and the trailer
 pub within : (row : RowShape) (text : List ℕ) (r : ReadText) → RowReads row text r
     → length (field_text r 0) + length (field_text r 1) + length r.trailer ≤ length text
-within row text r h = omega (arith, two_texts r.texts, reads_within (is_console row) row.fields [] text r.texts r.trailer h)
+within row text r h =
+    omega (arith, two_texts r.texts, reads_within (is_console row) row.fields [] text r.texts (h.following ++ r.trailer) h.fields, length-append h.following r.trailer)
 
 -- ---- reply fields
 

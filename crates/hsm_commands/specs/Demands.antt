@@ -3,7 +3,6 @@
 use Rattle.std.specs.Prelude.{◌≡◌, ℕ, ◌≤◌, ◌+◌, ◌||◌, ◌==◌, if◌then◌else◌, Bool, true, false, ◌&&◌, List, [], ◌∷◌, length, Option, Some, None, is_some}
 use Rattle.hsm_types.specs.Schemes.{scheme_parts}
 use Rattle.hsm_mac.specs.Macs.{takes_key}
-use Rattle.hsm_rows.specs.declared.settings.Module.{Module}
 use Rattle.hsm_rows.specs.declared.rules.PinSource.{PinSource}
 use Rattle.hsm_rows.specs.declared.rules.PinSource.TheVariants.{NoPin, BlockPin, LmkPin, ClearPin, DrawnPin}
 use Rattle.hsm_rows.specs.declared.rules.DataCheck.{DataCheck}
@@ -21,6 +20,7 @@ use Rattle.hsm_rows.specs.Table.{Term, plain_text, term}
 use Rattle.hsm_rows.specs.Rules.{RowRules}
 use Rattle.hsm_rows.specs.Reading.{ReadText}
 use Rattle.hsm_rows.specs.Standing.{AreDigits, AreHexDigits, IsLength, IsValidation, IsAccount}
+use Rattle.hsm_answers.specs.Read.{ReadMessage}
 use Rattle.hsm_answers.specs.Keys.{field_text, is_absent, scheme_at, lmk_key, wrapped_key}
 use Rattle.hsm_answers.specs.Pins.{given_pin, number_at}
 use Rattle.hsm_answers.specs.Macs.{mac_algorithm, mac_fault}
@@ -136,42 +136,42 @@ IsTwelveDigits r None = ⊥
 IsTwelveDigits r (Some k) = AreDigits 12 (field_text r k)
 
 -- the number of parts of a key
-abbrev pub secret_parts : Module → RowRules → ReadText → Secret → ℕ
-secret_parts m rules r (Opened k) = length (lmk_key m rules r k)
-secret_parts m rules r (OpenedUnder k kek) = length (wrapped_key m rules r k kek)
-secret_parts m rules r _ = made_parts rules r
+abbrev pub secret_parts : ReadMessage → Secret → ℕ
+secret_parts q (Opened k) = length (lmk_key q k)
+secret_parts q (OpenedUnder k kek) = length (wrapped_key q k kek)
+secret_parts q _ = made_parts q
 
-module _ (m : Module) (rules : RowRules) (r : ReadText) (keys : OpenedKeys) where
+module _ (q : ReadMessage) (keys : OpenedKeys) where
   -- the key of field k was opened under the LMK
   abbrev pub HasKey : ℕ → Type 0
-  HasKey k = key_by keys k ≡ Some (lmk_key m rules r k)
+  HasKey k = key_by keys k ≡ Some (lmk_key q k)
 
   -- the secret can be written under the key of field kek
   pub record CanWrap (secret : Secret) (kek : ℕ) : Type 0 where
     pub key : HasKey kek
-    pub long : 2 ≤ length (lmk_key m rules r kek)
-    pub parts : secret_parts m rules r secret ≡ scheme_parts (scheme_at r rules.made.wrap_scheme)
+    pub long : 2 ≤ length (lmk_key q kek)
+    pub parts : secret_parts q secret ≡ scheme_parts (scheme_at q.read q.rules.made.wrap_scheme)
 
   -- what a demand means
   abbrev pub Met : Demand → Type 0
   Met (so fact) = fact ≡ true
-  Met (has_digits n k) = AreDigits n (field_text r k)
-  Met (has_hex16 k) = AreHexDigits 16 (field_text r k)
-  Met (has_length k) = IsLength (field_text r k)
-  Met (has_clear_pin k) = length (field_text r k) ≡ 12
-  Met (has_validation k) = IsValidation (field_text r k)
-  Met (has_pan k) = IsAccount (field_text r k)
-  Met (has_account source) = IsTwelveDigits r (account_field source)
-  Met (has_mac_texts f) = AreMacTexts r f
+  Met (has_digits n k) = AreDigits n (field_text q.read k)
+  Met (has_hex16 k) = AreHexDigits 16 (field_text q.read k)
+  Met (has_length k) = IsLength (field_text q.read k)
+  Met (has_clear_pin k) = length (field_text q.read k) ≡ 12
+  Met (has_validation k) = IsValidation (field_text q.read k)
+  Met (has_pan k) = IsAccount (field_text q.read k)
+  Met (has_account source) = IsTwelveDigits q.read (account_field source)
+  Met (has_mac_texts f) = AreMacTexts q.read f
   Met (has_key k) = HasKey k
-  Met (has_pair k) = HasKey k × (length (lmk_key m rules r k) ≡ 2)
-  Met (has_key_under k kek) = key_by keys k ≡ Some (wrapped_key m rules r k kek)
-  Met (fits_algorithm f) = takes_key (mac_algorithm r f) (lmk_key m rules r f.key) ≡ true
-  Met (has_sound_data f) = checks_fault m rules r ≡ None → mac_fault r f ≡ None
-  Met (has_least k) = checks_fault m rules r ≡ None → number_at r k ≤ length (given_pin m rules r)
-  Met (fits_scheme s) = secret_parts m rules r s ≡ made_parts rules r
-  Met (can_wrap s kek) = (is_absent r kek || is_absent r rules.made.wrap_scheme) ≡ false → CanWrap s kek
-  Met (has_components ks) = AreComponents (made_scheme rules r) r ks
+  Met (has_pair k) = HasKey k × (length (lmk_key q k) ≡ 2)
+  Met (has_key_under k kek) = key_by keys k ≡ Some (wrapped_key q k kek)
+  Met (fits_algorithm f) = takes_key (mac_algorithm q.read f) (lmk_key q f.key) ≡ true
+  Met (has_sound_data f) = checks_fault q ≡ None → mac_fault q.read f ≡ None
+  Met (has_least k) = checks_fault q ≡ None → number_at q.read k ≤ length (given_pin q)
+  Met (fits_scheme s) = secret_parts q s ≡ made_parts q
+  Met (can_wrap s kek) = (is_absent q.read kek || is_absent q.read q.rules.made.wrap_scheme) ≡ false → CanWrap s kek
+  Met (has_components ks) = AreComponents (made_scheme q) q.read ks
 
   -- all of them are met
   abbrev pub AllMet : List Demand → Type 0
@@ -271,18 +271,18 @@ term_demands rules (term t) = public_demands rules t
 -- ---- what is held
 
 -- the PIN that was given, if it was read
-abbrev pub IsGiven : Module → RowRules → ReadText → Option (List ℕ) → Type 0
-IsGiven m rules r None = Unit {0}
-IsGiven m rules r (Some pin) = pin ≡ given_pin m rules r
+abbrev pub IsGiven : ReadMessage → Option (List ℕ) → Type 0
+IsGiven q None = Unit {0}
+IsGiven q (Some pin) = pin ≡ given_pin q
 
 -- the PIN that the data checks leave
-pub record IsLeft (m : Module) (rules : RowRules) (r : ReadText) (pin : Option (List ℕ)) : Type 0 where
-  pub given : IsGiven m rules r pin
-  pub there : is_some pin ≡ pin_at_end false rules.checks
+pub record IsLeft (q : ReadMessage) (pin : Option (List ℕ)) : Type 0 where
+  pub given : IsGiven q pin
+  pub there : is_some pin ≡ pin_at_end false q.rules.checks
 
 -- the key that is drawn at the entry, if one is
-abbrev pub key_drawn : Module → RowRules → ReadText → ℕ → Option (List (List ℕ))
-key_drawn m rules r place = if draws_key rules.words then Some (drawn_key m place (made_parts rules r)) else None
+abbrev pub key_drawn : ReadMessage → ℕ → Option (List (List ℕ))
+key_drawn q place = if draws_key q.rules.words then Some (drawn_key q.«module» place (made_parts q)) else None
 
 -- room for a reply field: a given text's own, else what any has
 abbrev pub term_room : ReadText → Term → ℕ

@@ -2,12 +2,11 @@
 use Rattle.std.specs.Prelude.{◌≡◌, ℕ, ◌≤◌, Bool, true, false, ◌&&◌, ◌==◌, if◌then◌else◌, List, [], ◌∷◌, length, Option, Some, None, IfSome}
 use Rattle.hsm_types.specs.Schemes.{scheme_parts}
 use Rattle.hsm_text.specs.KeyTexts.{scheme_of}
-use Rattle.hsm_rows.specs.declared.settings.Module.{Module}
 use Rattle.hsm_rows.specs.declared.rules.KeyCheck.{KeyCheck}
 use Rattle.hsm_rows.specs.declared.rules.KeyCheck.TheVariants.{GivenKey, Target}
 use Rattle.hsm_rows.specs.declared.rules.Under.TheVariants.{Lmk, KeyAt}
-use Rattle.hsm_rows.specs.Rules.{RowRules}
-use Rattle.hsm_rows.specs.Reading.{ReadText, is_end}
+use Rattle.hsm_rows.specs.Reading.{is_end}
+use Rattle.hsm_answers.specs.Read.{ReadMessage}
 use Rattle.hsm_answers.specs.declared.keys.Asked.{Asked}
 use Rattle.hsm_answers.specs.Keys.{field_text, is_absent, source_at, asked_key, lmk_key, wrapped_key, parts_by_scheme, differs, lengths_differ}
 use Rattle.hsm_commands.specs.declared.keys.FieldKey.{FieldKey}
@@ -47,29 +46,29 @@ abbrev pub IsSizedThere : Bool → List ℕ → Option ℕ → Option ℕ → Li
 IsSizedThere wraps text by_scheme by_rule key = (wraps && is_end text) ≡ false → IsSized wraps text by_scheme by_rule key
 
 -- what an earlier key must be for the key of another field to be under it
-pub record IsUnder (m : Module) (rules : RowRules) (r : ReadText) (earlier : Option FieldKey) (kek : ℕ) : Type 0 where
-  pub absent : is_absent r kek ≡ true → found_in earlier kek ≡ None
-  pub there : is_absent r kek ≡ false → found_in earlier kek ≡ Some (lmk_key m rules r kek)
-  pub long : is_absent r kek ≡ false → 2 ≤ length (lmk_key m rules r kek)
+pub record IsUnder (q : ReadMessage) (earlier : Option FieldKey) (kek : ℕ) : Type 0 where
+  pub absent : is_absent q.read kek ≡ true → found_in earlier kek ≡ None
+  pub there : is_absent q.read kek ≡ false → found_in earlier kek ≡ Some (lmk_key q kek)
+  pub long : is_absent q.read kek ≡ false → 2 ≤ length (lmk_key q kek)
 
-module _ (m : Module) (rules : RowRules) (r : ReadText) where
+module _ (q : ReadMessage) where
   -- what a key check needs: of the keys of the row the field's is of this type; and a key that it is under
   abbrev pub KeyStands : Option FieldKey → KeyCheck → Type 0
-  KeyStands earlier (GivenKey k Lmk ty wraps rule parity) = source_at k rules.keys ≡ ty
-  KeyStands earlier (GivenKey k (KeyAt kek) ty wraps rule parity) = (wraps ≡ false) × IsUnder m rules r earlier kek
+  KeyStands earlier (GivenKey k Lmk ty wraps rule parity) = source_at k q.rules.keys ≡ ty
+  KeyStands earlier (GivenKey k (KeyAt kek) ty wraps rule parity) = (wraps ≡ false) × IsUnder q earlier kek
   KeyStands earlier (Target ty k second) = Unit {0}
 
   -- the key of field k under the LMK, of as many parts as is asked for
   abbrev pub IsLmkKey : ℕ → Asked → Option FieldKey → Type 0
   IsLmkKey k a held =
-      (held ≡ given_key k a.wraps (field_text r k) (lmk_key m rules r k)) × IsSizedThere a.wraps (field_text r k) a.by_scheme a.by_rule (lmk_key m rules r k)
+      (held ≡ given_key k a.wraps (field_text q.read k) (lmk_key q k)) × IsSizedThere a.wraps (field_text q.read k) a.by_scheme a.by_rule (lmk_key q k)
 
   -- what it leaves
   abbrev pub KeyHolds : KeyCheck → Option FieldKey → Type 0
-  KeyHolds (GivenKey k Lmk ty wraps rule parity) held = IsLmkKey k (asked_key r ty wraps rule parity) held
+  KeyHolds (GivenKey k Lmk ty wraps rule parity) held = IsLmkKey k (asked_key q.read ty wraps rule parity) held
   KeyHolds (GivenKey k (KeyAt kek) ty wraps rule parity) held =
-      (held ≡ field_key k (wrapped_key m rules r k kek)) × IfSome (parts_by_scheme rule r) (λ n. length (wrapped_key m rules r k kek) ≡ n)
-  KeyHolds (Target ty k second) held = (held ≡ None) × (lengths_differ r k second ≡ false)
+      (held ≡ field_key k (wrapped_key q k kek)) × IfSome (parts_by_scheme rule q.read) (λ n. length (wrapped_key q k kek) ≡ n)
+  KeyHolds (Target ty k second) held = (held ≡ None) × (lengths_differ q.read k second ≡ false)
 
   -- the same of the keys of a row, of which there are at most two
   abbrev pub KeysHold : List KeyCheck → OpenedKeys → Type 0

@@ -9,13 +9,13 @@ use Rattle.hsm_rows.specs.declared.rules.AskKind.{AskKind}
 use Rattle.hsm_rows.specs.declared.row.Code.{Code}
 use Rattle.hsm_rows.specs.declared.row.Field.{Field}
 use Rattle.hsm_rows.specs.declared.row.Form.{Form}
-use Rattle.hsm_rows.specs.declared.row.Form.TheVariants.{LastComponent}
+use Rattle.hsm_rows.specs.declared.row.Form.TheVariants.{LastComponent, SetNumber}
 use Rattle.hsm_rows.specs.Forms.{is_minutes}
-use Rattle.hsm_rows.specs.Rules.{RowRules}
-use Rattle.hsm_rows.specs.Table.{RowShape, Term, term, shape_of, rules_of}
+use Rattle.hsm_rows.specs.Table.{RowShape, Term, term, shape_of}
 use Rattle.hsm_rows.specs.declared.row.Public.TheVariants.{Given}
 use Rattle.hsm_rows.specs.Reading.{ReadText, read_text_of, reading, RowReads}
 use Rattle.hsm_rows.specs.Standing.{IsText, EachText}
+use Rattle.hsm_answers.specs.Read.{ReadMessage, read_by, message_read}
 use Rattle.hsm_answers.specs.declared.plans.Checked.{Checked}
 use Rattle.hsm_answers.specs.declared.plans.Checked.TheVariants.{Unread, Failed, Passed}
 use Rattle.hsm_answers.specs.Keys.{field_text}
@@ -35,6 +35,7 @@ use Rattle.hsm_commands.specs.Written.{written_text}
 -- what was read for a field: a text of its form, or nothing where the form may be left out
 abbrev pub IsRead : Form → List (List ℕ) → List ℕ → Type 0
 IsRead (LastComponent scheme) e t = (t ≡ []) ⊎ IsText (LastComponent scheme) e t
+IsRead SetNumber e t = (t ≡ []) ⊎ IsText SetNumber e t
 IsRead f e t = IsText f e t
 
 -- the same of all fields
@@ -51,23 +52,23 @@ AskStands r AuthoriseAsk = is_minutes (field_text r 1) ≡ true
 AskStands r CancelAsk = Unit {0}
 
 -- the demands of the row's steps are met by the keys of a message
-pub record StepsStand (m : Module) (rules : RowRules) (r : ReadText) (keys : OpenedKeys) : Type 0 where
-  pub parts : AllMet m rules r keys (parts_demands rules rules.parts_differ)
-  pub pin : AllMet m rules r keys (pin_demands rules.pin)
-  pub checks : EachMet m rules r keys (map (check_demands rules.pin) rules.checks)
-  pub value : AllMet m rules r keys (value_demands rules rules.value)
-  pub words : AllMet m rules r keys (word_demands rules rules.words)
+pub record StepsStand (q : ReadMessage) (keys : OpenedKeys) : Type 0 where
+  pub parts : AllMet q keys (parts_demands q.rules q.rules.parts_differ)
+  pub pin : AllMet q keys (pin_demands q.rules.pin)
+  pub checks : EachMet q keys (map (check_demands q.rules.pin) q.rules.checks)
+  pub value : AllMet q keys (value_demands q.rules q.rules.value)
+  pub words : AllMet q keys (word_demands q.rules q.rules.words)
 
 -- the rules of a row can be followed where its texts are these
-pub record RowStands (m : Module) (rules : RowRules) (r : ReadText) : Type 0 where
-  pub keys : KeysStand m rules r rules.keys
-  pub steps : (keys : OpenedKeys) → KeysHold m rules r rules.keys keys → StepsStand m rules r keys
-  pub have : have_pin false rules.checks ≡ true
-  pub ask : AskStands r rules.ask
+pub record RowStands (q : ReadMessage) : Type 0 where
+  pub keys : KeysStand q q.rules.keys
+  pub steps : (keys : OpenedKeys) → KeysHold q q.rules.keys keys → StepsStand q keys
+  pub have : have_pin false q.rules.checks ≡ true
+  pub ask : AskStands q.read q.rules.ask
 
 -- and so can its reply fields
-abbrev pub TermsStand : Module → RowRules → List Term → ReadText → Type 0
-TermsStand m rules terms r = (keys : OpenedKeys) → KeysHold m rules r rules.keys keys → EachMet m rules r keys (map (term_demands rules) terms)
+abbrev pub TermsStand : ReadMessage → List Term → Type 0
+TermsStand q terms = (keys : OpenedKeys) → KeysHold q q.rules.keys keys → EachMet q keys (map (term_demands q.rules) terms)
 
 -- the reply is one given text, and no more
 abbrev pub echoes : List Term → Bool
@@ -87,8 +88,8 @@ pub record IsFollowed (row : RowShape) : Type 0 where
   pub few : length row.fields ≤ 12
   pub reply : length row.reply ≤ 2
   pub room : (text : List ℕ) (r : ReadText) → AreRead row.fields r.texts → RowReads row text r → FitsText (echoes row.terms) (terms_room r row.terms) text r.trailer
-  pub stands : (m : Module) (r : ReadText) → AreRead row.fields r.texts → RowStands m (rules_of row) r
-  pub terms : (m : Module) (r : ReadText) → AreRead row.fields r.texts → TermsStand m (rules_of row) row.terms r
+  pub stands : (m : Module) (r : ReadText) → AreRead row.fields r.texts → RowStands (read_by m row r)
+  pub terms : (m : Module) (r : ReadText) → AreRead row.fields r.texts → TermsStand (read_by m row r) row.terms
 
 -- the row of a plan's message
 abbrev pub plan_row : Plan → RowShape
@@ -106,27 +107,32 @@ plan_ask p = p.found.ask
 abbrev pub plan_read : Plan → ReadText
 plan_read p = read_text_of p.fields
 
+-- the message of a plan of the module
+abbrev pub plan_message : Module → Plan → ReadMessage
+plan_message m p = read_by m (plan_row p) (plan_read p)
+
 -- what the checks of a message whose fields were read came to
-abbrev pub AreChecked : Module → RowRules → ReadText → Checked → Type 0
-AreChecked m rules r (Unread code) = ⊥
-AreChecked m rules r (Failed code) = early_fault m rules r ≡ Some code.0
-AreChecked m rules r (Passed late) = (early_fault m rules r ≡ None) × (late_fault m rules r ≡ option_map code_number late)
+abbrev pub AreChecked : ReadMessage → Checked → Type 0
+AreChecked q (Unread code) = ⊥
+AreChecked q (Failed code) = early_fault q ≡ Some code.0
+AreChecked q (Passed late) = (early_fault q ≡ None) × (late_fault q ≡ option_map code_number late)
 
 -- what its checks leave, where none fails
-pub record IsHeld (m : Module) (rules : RowRules) (r : ReadText) (held : HeldParts) : Type 0 where
-  pub keys : KeysHold m rules r rules.keys held.keys
-  pub left : IsLeft m rules r held.pin
-  pub value : written_text held.value ≡ row_value m rules r rules.value
-  pub chain : written_text held.chain ≡ chain_value m rules r rules.value
+pub record IsHeld (q : ReadMessage) (held : HeldParts) : Type 0 where
+  pub loaded : q.read.set < length q.«module».lmks.items
+  pub keys : KeysHold q q.rules.keys held.keys
+  pub left : IsLeft q held.pin
+  pub value : written_text held.value ≡ row_value q q.rules.value
+  pub chain : written_text held.chain ≡ chain_value q q.rules.value
 
 -- the row authorises, and the words aren't the officers'
-abbrev pub refuses_words : Module → RowRules → ReadText → Bool
-refuses_words m rules r = is_authorise rules.ask && not (words_hold m r)
+abbrev pub refuses_words : ReadMessage → Bool
+refuses_words q = is_authorise q.rules.ask && not (words_hold q)
 
 -- the same of a text, which may not read
-abbrev pub words_refused : Module → RowShape → Result ReadText Code → Bool
-words_refused m row (Err code) = false
-words_refused m row (Ok r) = refuses_words m (rules_of row) r
+abbrev pub words_refused : Result ReadMessage Code → Bool
+words_refused (Err code) = false
+words_refused (Ok q) = refuses_words q
 
 -- reply fields as they are written: the console's that are there each after one space
 abbrev pub written_fields : Bool → List (List ℕ) → List ℕ
@@ -134,30 +140,31 @@ written_fields true vs = spaced (filter is_present vs)
 written_fields false vs = flat_map (λ field. field) vs
 
 -- what is held for the reply fields
-pub record IsReady (m : Module) (rules : RowRules) (terms : List Term) (r : ReadText) (held : HeldParts) : Type 0 where
-  pub pin : AllMet m rules r held.keys (pin_demands rules.pin)
-  pub left : IsLeft m rules r held.pin
-  pub fields : EachMet m rules r held.keys (map (term_demands rules) terms)
-  pub value : written_text held.value ≡ row_value m rules r rules.value
-  pub chain : written_text held.chain ≡ chain_value m rules r rules.value
+pub record IsReady (q : ReadMessage) (terms : List Term) (held : HeldParts) : Type 0 where
+  pub loaded : q.read.set < length q.«module».lmks.items
+  pub pin : AllMet q held.keys (pin_demands q.rules.pin)
+  pub left : IsLeft q held.pin
+  pub fields : EachMet q held.keys (map (term_demands q.rules) terms)
+  pub value : written_text held.value ≡ row_value q q.rules.value
+  pub chain : written_text held.chain ≡ chain_value q q.rules.value
 
 -- what is held, and the key and the PIN at the entry
-pub record IsAtEntry (m : Module) (rules : RowRules) (r : ReadText) (g : Granted) (held : HeldParts) (drawn : Option (List (List ℕ))) (pin : Option (List ℕ)) : Type 0 where
-  pub left : IsLeft m rules r held.pin
-  pub value : written_text held.value ≡ row_value m rules r rules.value
-  pub chain : written_text held.chain ≡ chain_value m rules r rules.value
-  pub key : drawn ≡ key_drawn m rules r (first_of g)
-  pub there : is_some pin ≡ pin_there rules.pin (pin_at_end false rules.checks)
-  pub is : IfSome pin (λ p. p ≡ pin_of m rules r (first_of g))
+pub record IsAtEntry (q : ReadMessage) (g : Granted) (held : HeldParts) (drawn : Option (List (List ℕ))) (pin : Option (List ℕ)) : Type 0 where
+  pub left : IsLeft q held.pin
+  pub value : written_text held.value ≡ row_value q q.rules.value
+  pub chain : written_text held.chain ≡ chain_value q q.rules.value
+  pub key : drawn ≡ key_drawn q (first_of g)
+  pub there : is_some pin ≡ pin_there q.rules.pin (pin_at_end false q.rules.checks)
+  pub is : IfSome pin (λ p. p ≡ pin_of q (first_of g))
   pub place : first_of g < 2 ^ 63
 
 -- the plan is the one of the text of the row in the module: what was read, checked and held
 pub record IsPlan (m : Module) (row : RowShape) (text : List ℕ) (p : Plan) : Type 0 where
   pub followed : IsFollowed row
-  pub planned : IsPlanned m row text p.found.ask p.found.checked p.fields.trailer.now (λ g. fields_text m (rules_of row) row g (plan_read p))
-  pub words : p.wrong_words ≡ words_refused m row (reading row text)
+  pub planned : IsPlanned m row text p.found.ask p.found.checked p.fields.trailer.now (fields_text row (read_by m row (plan_read p)))
+  pub words : p.wrong_words ≡ words_refused (message_read m row text)
   pub read : p.found.checked ≡ Passed None → reading row text ≡ Ok (plan_read p)
-  pub ready : p.found.checked ≡ Passed None → IsReady m (rules_of row) row.terms (plan_read p) p.found.held
+  pub ready : p.found.checked ≡ Passed None → IsReady (read_by m row (plan_read p)) row.terms p.found.held
   pub room : p.found.checked ≡ Passed None → FitsText (echoes row.terms) (terms_room (plan_read p) row.terms) text p.fields.trailer.now
 
 -- the plan is one that `prepare` gives for the module

@@ -4,7 +4,7 @@ ghost use Rattle.hsm_types.specs.Schemes.{scheme_parts};
 ghost use Rattle.hsm_parity.specs.Parity.{adjusted};
 ghost use Rattle.hsm_answers.specs.Values.{joined_bytes, joined_key, made_parts, made_scheme, parts_of_bytes, xor_bytes};
 ghost use Rattle.hsm_commands.specs.Components.{AreComponents, MayBeComponents};
-ghost use Rattle.hsm_commands.specs.Request.{row_rules, texts_of};
+ghost use Rattle.hsm_commands.specs.Request.{row_rules, texts_of, message_of};
 
 use crate::fields::text_of;
 use crate::request::Request;
@@ -37,9 +37,9 @@ fn exclusive_or(xs: &[u8], ys: &[u8]) -> ArrayVec<u8, 24>
 
 // The exclusive-or of the components of these fields.
 fn joined_bytes(request: &Request<'_, '_>, components: &[u8]) -> ArrayVec<u8, 24>
-    requires { MayBeComponents (made_scheme (row_rules request.now) (texts_of request.now)) (texts_of request.now) components.now }
+    requires { MayBeComponents (made_scheme (message_of request.now)) (texts_of request.now) components.now }
     ensures bytes { result.items ≡ joined_bytes (texts_of request.now) components.now }
-    ensures short { length result.items ≤ 8 * made_parts (row_rules request.now) (texts_of request.now) }
+    ensures short { length result.items ≤ 8 * made_parts (message_of request.now) }
 {
     match components {
         [] => ArrayVec::new(),
@@ -84,9 +84,9 @@ fn adjusted_key(scheme: Scheme, bytes: &[u8]) -> Key
 #[inline(never)]
 #[tactic(auto, unfolding(hsm_answers::specs::Values::joined_key))]
 pub(crate) fn joined_key(request: &Request<'_, '_>) -> Key
-    requires { AreComponents (made_scheme (row_rules request.now) (texts_of request.now)) (texts_of request.now) (row_rules request.now).components }
-    ensures key { result ≡ joined_key (row_rules request.now) (texts_of request.now) }
-    ensures parts { length result ≡ made_parts (row_rules request.now) (texts_of request.now) }
+    requires { AreComponents (made_scheme (message_of request.now)) (texts_of request.now) (row_rules request.now).components }
+    ensures key { result ≡ joined_key (message_of request.now) }
+    ensures parts { length result ≡ made_parts (message_of request.now) }
 {
     let scheme = scheme_named(text_of(request, request.rules.made.scheme));
     match request.rules.components {

@@ -7,10 +7,10 @@ ghost use Rattle.hsm_answers.specs.Checks.{data_fault};
 ghost use Rattle.hsm_answers.specs.Given.{code_in};
 ghost use Rattle.hsm_answers.specs.Plans.{code_number};
 ghost use Rattle.hsm_commands.specs.Demands.{IsGiven, check_demands, given_demands, has_pin, have_pin, pin_after, pin_at_end};
-ghost use Rattle.hsm_commands.specs.Request.{Meets, MeetsEach, module_of, row_rules, texts_of};
+ghost use Rattle.hsm_commands.specs.Request.{Meets, MeetsEach, row_rules, message_of};
 
 use crate::clear_pins::clear_pin;
-use crate::fields::{block_of_field, digits_of, format_of, number_at, text_of};
+use crate::fields::{block_of_field, digits_of, format_of, lmk_of, number_at, text_of};
 use crate::keys::{OpenedKeys, held_key};
 use crate::pins::{bad_table, longer, opened_pin, sent_pin, shorter};
 use crate::request::Request;
@@ -28,8 +28,8 @@ pub(crate) fn pin_given(
     source: PinSource,
 ) -> Result<Pin, Code>
     requires { Meets request.now keys.now (given_demands source) }
-    ensures fault { code_in result ≡ pin_fault (module_of request.now) (row_rules request.now) (texts_of request.now) source }
-    ensures pin { IfOk result (λ pin. pin ≡ pin_from (module_of request.now) (row_rules request.now) (texts_of request.now) 0 source) }
+    ensures fault { code_in result ≡ pin_fault (message_of request.now) source }
+    ensures pin { IfOk result (λ pin. pin ≡ pin_from (message_of request.now) 0 source) }
 {
     match source {
         PinSource::BlockPin {
@@ -50,7 +50,7 @@ pub(crate) fn pin_given(
         }
         PinSource::LmkPin { text, account } => {
             let account = digits_of(request, account);
-            opened_pin(&request.module.lmk, block_of_field(request, text), &account)
+            opened_pin(lmk_of(request), block_of_field(request, text), &account)
         }
         PinSource::ClearPin { text, account: _ } => clear_pin(text_of(request, text)),
         // a row that checks its PIN gives one
@@ -79,10 +79,10 @@ fn check_one(
     check: DataCheck,
 ) -> Result<Option<Pin>, Code>
     requires stands { Meets request.now keys.now (check_demands (row_rules request.now).pin check) }
-    requires pin { IsGiven (module_of request.now) (row_rules request.now) (texts_of request.now) pin }
+    requires pin { IsGiven (message_of request.now) pin }
     requires held { has_pin (is_some pin) check ≡ true }
-    ensures fault { code_in result ≡ data_fault (module_of request.now) (row_rules request.now) (texts_of request.now) check }
-    ensures pin { IfOk result (λ p. IsGiven (module_of request.now) (row_rules request.now) (texts_of request.now) p) }
+    ensures fault { code_in result ≡ data_fault (message_of request.now) check }
+    ensures pin { IfOk result (λ p. IsGiven (message_of request.now) p) }
     ensures held { IfOk result (λ p. is_some p ≡ pin_after (is_some pin) check) }
 {
     match check {
@@ -114,10 +114,10 @@ pub(crate) fn check_data(
     checks: &[DataCheck],
 ) -> Result<Option<Pin>, Code>
     requires stands { MeetsEach request.now keys.now (map (check_demands (row_rules request.now).pin) checks.now) }
-    requires pin { IsGiven (module_of request.now) (row_rules request.now) (texts_of request.now) pin }
+    requires pin { IsGiven (message_of request.now) pin }
     requires held { have_pin (is_some pin) checks.now ≡ true }
-    ensures fault { code_in result ≡ first_code (map (data_fault (module_of request.now) (row_rules request.now) (texts_of request.now)) checks.now) }
-    ensures pin { IfOk result (λ p. IsGiven (module_of request.now) (row_rules request.now) (texts_of request.now) p) }
+    ensures fault { code_in result ≡ first_code (map (data_fault (message_of request.now)) checks.now) }
+    ensures pin { IfOk result (λ p. IsGiven (message_of request.now) p) }
     ensures held { IfOk result (λ p. is_some p ≡ pin_at_end (is_some pin) checks.now) }
 {
     match checks {

@@ -10,7 +10,7 @@ ghost use Rattle.hsm_answers.specs.Plans.{code_number};
 ghost use Rattle.hsm_commands.specs.declared.keys.OpenedKeys.{OpenedKeys};
 ghost use Rattle.hsm_commands.specs.Demands.{parts_demands};
 ghost use Rattle.hsm_commands.specs.Opened.{KeysHold, KeysStand};
-ghost use Rattle.hsm_commands.specs.Request.{Meets, module_of, row_rules, texts_of};
+ghost use Rattle.hsm_commands.specs.Request.{Meets, module_of, row_rules, texts_of, message_of};
 
 use crate::components::joined_key;
 use crate::key_checks::check_keys;
@@ -25,7 +25,7 @@ use hsm_types::Permit;
 // 29 where a permit that the row uses is N.
 fn permit_code(request: &Request<'_, '_>, acts: &[ActUse]) -> Option<Code>
     ensures { option_map code_number result
-        ≡ (if list_any (λ (a : ActUse). is_used (texts_of request.now) a.where_present && is_forbidden (act_permit (module_of request.now) (texts_of request.now) a)) acts.now then Some 29 else None) }
+        ≡ (if list_any (λ (a : ActUse). is_used (texts_of request.now) a.where_present && is_forbidden (act_permit (message_of request.now) a)) acts.now then Some 29 else None) }
 {
     match acts {
         [] => None,
@@ -43,7 +43,7 @@ fn permit_code(request: &Request<'_, '_>, acts: &[ActUse]) -> Option<Code>
 #[tactic(auto, unfolding(hsm_answers::specs::Checks::parts_fault, hsm_answers::specs::Values::secret_key))]
 fn parts_code(request: &Request<'_, '_>, keys: &OpenedKeys) -> Option<Code>
     requires { Meets request.now keys.now (parts_demands (row_rules request.now) (row_rules request.now).parts_differ) }
-    ensures { option_map code_number result ≡ parts_fault (module_of request.now) (row_rules request.now) (texts_of request.now) (row_rules request.now).parts_differ }
+    ensures { option_map code_number result ≡ parts_fault (message_of request.now) (row_rules request.now).parts_differ }
 {
     let key = match request.rules.parts_differ {
         None => return None,
@@ -61,19 +61,19 @@ fn parts_code(request: &Request<'_, '_>, keys: &OpenedKeys) -> Option<Code>
 }
 
 // Puts the keys of a message in the place of `keys`, or answers the code of the first early check that fails.
-#[tactic(auto, unfolding(hsm_answers::specs::Checks::early_fault, hsm_answers::specs::Checks::permit_fault))]
+#[tactic(auto, using(crate::proofs::SetSteps::loaded_so), unfolding(hsm_answers::specs::Checks::early_fault, hsm_answers::specs::Checks::permit_fault))]
 pub(crate) fn check_early(
     request: &Request<'_, '_>,
     cache: &mut KeyCache,
     keys: &mut OpenedKeys,
 ) -> Result<(), Code>
     requires cache { IsCacheOf (module_of request.now) cache.old }
-    requires keys { KeysStand (module_of request.now) (row_rules request.now) (texts_of request.now) (row_rules request.now).keys }
-    requires parts { (keys : OpenedKeys) → KeysHold (module_of request.now) (row_rules request.now) (texts_of request.now) (row_rules request.now).keys keys
+    requires keys { KeysStand (message_of request.now) (row_rules request.now).keys }
+    requires parts { (keys : OpenedKeys) → KeysHold (message_of request.now) (row_rules request.now).keys keys
         → Meets request.now keys (parts_demands (row_rules request.now) (row_rules request.now).parts_differ) }
-    ensures fault { code_in result ≡ early_fault (module_of request.now) (row_rules request.now) (texts_of request.now) }
-    ensures keys { IfOk result (λ _. KeysHold (module_of request.now) (row_rules request.now) (texts_of request.now) (row_rules request.now).keys keys.new) }
-    ensures cache { Opens (module_of request.now) cache.old cache.new (checks_entries (module_of request.now) (row_rules request.now) (texts_of request.now) (row_rules request.now).keys) }
+    ensures fault { code_in result ≡ early_fault (message_of request.now) }
+    ensures keys { IfOk result (λ _. KeysHold (message_of request.now) (row_rules request.now).keys keys.new) }
+    ensures cache { Opens (module_of request.now) cache.old cache.new (checks_entries (message_of request.now) (row_rules request.now).keys) }
 {
     let rules = request.rules;
     check_keys(request, cache, rules.keys, keys)?;

@@ -3,12 +3,13 @@ ghost use Rattle.std.specs.Prelude.{◌≡◌, map, IsTrue};
 ghost use Rattle.std.specs.List.{list_all};
 ghost use Rattle.hsm_types.specs.Pins.{is_decimal};
 ghost use Rattle.hsm_rows.specs.Standing.{AreDigits, AreHexDigits};
-ghost use Rattle.hsm_answers.specs.Keys.{field_text};
+ghost use Rattle.hsm_answers.specs.Keys.{field_text, set_of};
 ghost use Rattle.hsm_answers.specs.Pins.{digits_at, block_at, number_at, format_at};
-ghost use Rattle.hsm_commands.specs.Request.{texts_of};
+ghost use Rattle.hsm_commands.specs.Request.{texts_of, message_of};
 
 use crate::request::Request;
 use hsm_answers::{block, digits};
+use hsm_lmk::LmkSet;
 use hsm_pinblock::Format;
 use hsm_rows::{text_at, two_digit_value};
 
@@ -18,6 +19,14 @@ pub(crate) fn text_of<'m>(request: &Request<'_, 'm>, k: u8) -> &'m [u8]
     ensures { result.now ≡ field_text (texts_of request.now) k }
 {
     text_at(request.fields.texts.as_slice(), k)
+}
+
+// The LMK set that the message names.
+#[inline]
+pub(crate) fn lmk_of<'a>(request: &Request<'a, '_>) -> &'a LmkSet
+    ensures { result.now ≡ set_of (message_of request.now) }
+{
+    &request.module.lmks.as_slice()[usize::from(request.fields.set)]
 }
 
 // The values of the N decimal digits of field k.

@@ -8,7 +8,7 @@ ghost use Rattle.hsm_answers.specs.Given.{code_in};
 ghost use Rattle.hsm_answers.specs.Kept.{IsCacheOf, Opens, check_entries, checks_entries, entry_for};
 ghost use Rattle.hsm_commands.specs.declared.keys.OpenedKeys.{OpenedKeys};
 ghost use Rattle.hsm_commands.specs.Opened.{IsLmkKey, KeyStands, KeyHolds, KeysStand, KeysHold};
-ghost use Rattle.hsm_commands.specs.Request.{module_of, row_rules, texts_of};
+ghost use Rattle.hsm_commands.specs.Request.{module_of, row_rules, texts_of, message_of};
 
 use crate::fields::text_of;
 use crate::keys::{FieldKey, OpenedKeys, found_in};
@@ -70,8 +70,8 @@ fn check_target(
     scheme: u8,
     second: Option<u8>,
 ) -> Result<Option<FieldKey>, Code>
-    ensures fault { code_in result ≡ key_fault (module_of request.now) (row_rules request.now) (texts_of request.now) (Target ty scheme second) }
-    ensures key { IfOk result (λ held. KeyHolds (module_of request.now) (row_rules request.now) (texts_of request.now) (Target ty scheme second) held) }
+    ensures fault { code_in result ≡ key_fault (message_of request.now) (Target ty scheme second) }
+    ensures key { IfOk result (λ held. KeyHolds (message_of request.now) (Target ty scheme second) held) }
 {
     if lengths_differ(request, scheme, second) {
         return Err(Code(26));
@@ -102,17 +102,18 @@ fn check_lmk(
 ) -> Result<Option<FieldKey>, Code>
     requires cache { IsCacheOf (module_of request.now) cache.old }
     requires ty { type_of (texts_of request.now) (source_at field (row_rules request.now).keys) ≡ asked.now.ty }
-    ensures fault { code_in result ≡ given_fault (wrapping_key (module_of request.now) (row_rules request.now) (texts_of request.now) Lmk asked.now.ty) Lmk asked.now (field_text (texts_of request.now) field) }
-    ensures key { IfOk result (λ held. IsLmkKey (module_of request.now) (row_rules request.now) (texts_of request.now) field asked.now held) }
+    ensures fault { code_in result ≡ given_fault (wrapping_key (message_of request.now) Lmk asked.now.ty) Lmk asked.now (field_text (texts_of request.now) field) }
+    ensures key { IfOk result (λ held. IsLmkKey (message_of request.now) field asked.now held) }
     ensures cache { IfOk result (λ _. Opens (module_of request.now) cache.old cache.new
-        (if asked.now.wraps && is_end (field_text (texts_of request.now) field) then [] else entry_for (module_of request.now).lmk asked.now.ty (key_data (texts_of request.now) field))) }
+        (if asked.now.wraps && is_end (field_text (texts_of request.now) field) then [] else entry_for (module_of request.now).lmks.items (texts_of request.now).set asked.now.ty (key_data (texts_of request.now) field))) }
     ensures unkept { IfErr result (λ _. cache.new ≡ cache.old) }
 {
     let text = text_of(request, field);
     if is_left_out(asked.wraps, text) {
         return Ok(None);
     }
-    match check_lmk_key(cache, &request.module.lmk, asked, text) {
+    let sets = request.module.lmks.as_slice();
+    match check_lmk_key(cache, sets, request.fields.set, asked, text) {
         Ok(key) => Ok(Some(FieldKey { field, key })),
         Err(code) => Err(code),
     }
@@ -127,10 +128,10 @@ fn check_key(
     check: KeyCheck,
 ) -> Result<Option<FieldKey>, Code>
     requires cache { IsCacheOf (module_of request.now) cache.old }
-    requires stands { KeyStands (module_of request.now) (row_rules request.now) (texts_of request.now) earlier.now check }
-    ensures fault { code_in result ≡ key_fault (module_of request.now) (row_rules request.now) (texts_of request.now) check }
-    ensures key { IfOk result (λ held. KeyHolds (module_of request.now) (row_rules request.now) (texts_of request.now) check held) }
-    ensures cache { IfOk result (λ _. Opens (module_of request.now) cache.old cache.new (check_entries (module_of request.now) (texts_of request.now) check)) }
+    requires stands { KeyStands (message_of request.now) earlier.now check }
+    ensures fault { code_in result ≡ key_fault (message_of request.now) check }
+    ensures key { IfOk result (λ held. KeyHolds (message_of request.now) check held) }
+    ensures cache { IfOk result (λ _. Opens (module_of request.now) cache.old cache.new (check_entries (message_of request.now) check)) }
     ensures unkept { IfErr result (λ _. cache.new ≡ cache.old) }
 {
     match check {
@@ -178,10 +179,10 @@ pub(crate) fn check_keys(
     keys: &mut OpenedKeys,
 ) -> Result<(), Code>
     requires cache { IsCacheOf (module_of request.now) cache.old }
-    requires stand { KeysStand (module_of request.now) (row_rules request.now) (texts_of request.now) checks.now }
-    ensures fault { code_in result ≡ keys_fault (module_of request.now) (row_rules request.now) (texts_of request.now) checks.now }
-    ensures keys { IfOk result (λ _. KeysHold (module_of request.now) (row_rules request.now) (texts_of request.now) checks.now keys.new) }
-    ensures cache { Opens (module_of request.now) cache.old cache.new (checks_entries (module_of request.now) (row_rules request.now) (texts_of request.now) checks.now) }
+    requires stand { KeysStand (message_of request.now) checks.now }
+    ensures fault { code_in result ≡ keys_fault (message_of request.now) checks.now }
+    ensures keys { IfOk result (λ _. KeysHold (message_of request.now) checks.now keys.new) }
+    ensures cache { Opens (module_of request.now) cache.old cache.new (checks_entries (message_of request.now) checks.now) }
 {
     match checks {
         [] => {

@@ -7,7 +7,7 @@ ghost use Rattle.hsm_answers.specs.Given.{code_in};
 ghost use Rattle.hsm_answers.specs.Plans.{code_number};
 ghost use Rattle.hsm_commands.specs.Demands.{check_demands, have_pin, value_demands};
 ghost use Rattle.hsm_commands.specs.Written.{written_text};
-ghost use Rattle.hsm_commands.specs.Request.{Meets, MeetsEach, Leaves, module_of, row_rules, texts_of};
+ghost use Rattle.hsm_commands.specs.Request.{Meets, MeetsEach, Leaves, row_rules, message_of};
 
 use crate::data_checks::check_data;
 use crate::fields::text_of;
@@ -21,8 +21,8 @@ use hsm_rows::Code;
 // 01 where the text of the compared field isn't the value.
 #[tactic(auto, unfolding(hsm_answers::specs::Checks::compared_fault))]
 fn compared_code(request: &Request<'_, '_>, field: Option<u8>, value: &Written) -> Option<Code>
-    requires { written_text value.now ≡ row_value (module_of request.now) (row_rules request.now) (texts_of request.now) (row_rules request.now).value }
-    ensures { option_map code_number result ≡ compared_fault (module_of request.now) (row_rules request.now) (texts_of request.now) field }
+    requires { written_text value.now ≡ row_value (message_of request.now) (row_rules request.now).value }
+    ensures { option_map code_number result ≡ compared_fault (message_of request.now) field }
 {
     match field {
         Some(k) => compared(text_of(request, k), value.text()),
@@ -40,11 +40,11 @@ pub(crate) fn check_late(
     requires checks { MeetsEach request.now held.old.keys (map (check_demands (row_rules request.now).pin) (row_rules request.now).checks) }
     requires have { have_pin false (row_rules request.now).checks ≡ true }
     requires value { Meets request.now held.old.keys (value_demands (row_rules request.now) (row_rules request.now).value) }
-    ensures fault { code_in result ≡ late_fault (module_of request.now) (row_rules request.now) (texts_of request.now) }
+    ensures fault { code_in result ≡ late_fault (message_of request.now) }
     ensures keys { held.new.keys ≡ held.old.keys }
     ensures pin { IfOk result (λ _. Leaves request.now held.new.pin) }
-    ensures value { IfOk result (λ _. written_text held.new.value ≡ row_value (module_of request.now) (row_rules request.now) (texts_of request.now) (row_rules request.now).value) }
-    ensures chain { IfOk result (λ _. written_text held.new.chain ≡ chain_value (module_of request.now) (row_rules request.now) (texts_of request.now) (row_rules request.now).value) }
+    ensures value { IfOk result (λ _. written_text held.new.value ≡ row_value (message_of request.now) (row_rules request.now).value) }
+    ensures chain { IfOk result (λ _. written_text held.new.chain ≡ chain_value (message_of request.now) (row_rules request.now).value) }
 {
     held.pin = check_data(request, cache, &held.keys, None, request.rules.checks)?;
     let texts = value_of(request, &held.keys, &held.pin, request.rules.value);

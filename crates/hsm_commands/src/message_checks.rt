@@ -4,11 +4,11 @@ ghost use Rattle.hsm_auth.specs.History.{CanAsk};
 ghost use Rattle.hsm_answers.specs.declared.plans.Checked.TheVariants.{Passed};
 ghost use Rattle.hsm_answers.specs.Asks.{ask_read, asked_words, empty_ask, row_ask};
 ghost use Rattle.hsm_answers.specs.Checks.{early_fault, late_fault};
-ghost use Rattle.hsm_answers.specs.Kept.{IsCacheOf, Opens, checks_entries};
+ghost use Rattle.hsm_answers.specs.Kept.{IsCacheOf, Opens, read_entries};
 ghost use Rattle.hsm_commands.specs.Demands.{word_demands};
 ghost use Rattle.hsm_commands.specs.Opened.{KeysHold};
 ghost use Rattle.hsm_commands.specs.Plans.{AreChecked, AskStands, IsHeld, RowStands};
-ghost use Rattle.hsm_commands.specs.Request.{Leaves, Meets, module_of, row_rules, texts_of};
+ghost use Rattle.hsm_commands.specs.Request.{Leaves, Meets, module_of, row_rules, texts_of, message_of, message_with};
 
 use crate::early_checks::check_early;
 use crate::keys::OpenedKeys;
@@ -21,7 +21,7 @@ use crate::value::Written;
 use hsm_answers::{Checked, empty_ask};
 use hsm_auth::Ask;
 use hsm_lmk::KeyCache;
-use hsm_rows::AskKind;
+use hsm_rows::{AskKind, Code, Fields, Module, Rules};
 
 // What the checks came to: what is asked, and what is held where none fails.
 #[derive(Clone, Copy)]
@@ -60,9 +60,9 @@ pub(crate) fn refused(checked: Checked) -> Found
 #[tactic(auto, unfolding(hsm_answers::specs::Asks::row_ask, hsm_answers::specs::Checks::needs_of))]
 fn ask_with(request: &Request<'_, '_>, words: u16) -> Ask
     requires stands { AskStands (texts_of request.now) (row_rules request.now).ask }
-    requires words { words ≡ asked_words (module_of request.now) (row_rules request.now) (texts_of request.now) }
+    requires words { words ≡ asked_words (message_of request.now) }
     requires few { words ≤ 12 }
-    ensures ask { result ≡ row_ask (module_of request.now) (row_rules request.now) (texts_of request.now) (row_rules request.now).ask }
+    ensures ask { result ≡ row_ask (message_of request.now) (row_rules request.now).ask }
     ensures may { CanAsk result }
 {
     let rules = request.rules;
@@ -85,8 +85,8 @@ fn ask_of(request: &Request<'_, '_>, held: &HeldParts) -> Ask
     requires stands { AskStands (texts_of request.now) (row_rules request.now).ask }
     requires words { Meets request.now held.now.keys (word_demands (row_rules request.now) (row_rules request.now).words) }
     requires left { Leaves request.now held.now.pin }
-    requires good { late_fault (module_of request.now) (row_rules request.now) (texts_of request.now) ≡ None }
-    ensures ask { result ≡ row_ask (module_of request.now) (row_rules request.now) (texts_of request.now) (row_rules request.now).ask }
+    requires good { late_fault (message_of request.now) ≡ None }
+    ensures ask { result ≡ row_ask (message_of request.now) (row_rules request.now).ask }
     ensures may { CanAsk result }
 {
     ask_with(request, word_count(request, held))
@@ -96,8 +96,8 @@ fn ask_of(request: &Request<'_, '_>, held: &HeldParts) -> Ask
 #[tactic(auto, unfolding(hsm_answers::specs::Asks::asked_words))]
 fn late_ask(request: &Request<'_, '_>) -> Ask
     requires stands { AskStands (texts_of request.now) (row_rules request.now).ask }
-    requires bad { is_some (late_fault (module_of request.now) (row_rules request.now) (texts_of request.now)) ≡ true }
-    ensures ask { result ≡ row_ask (module_of request.now) (row_rules request.now) (texts_of request.now) (row_rules request.now).ask }
+    requires bad { is_some (late_fault (message_of request.now)) ≡ true }
+    ensures ask { result ≡ row_ask (message_of request.now) (row_rules request.now).ask }
     ensures may { CanAsk result }
 {
     ask_with(request, 0)
@@ -105,13 +105,13 @@ fn late_ask(request: &Request<'_, '_>) -> Ask
 
 // Finds what the checks of a message come to whose keys hold, and are there.
 fn find_late(request: &Request<'_, '_>, cache: &KeyCache, found: &mut Found)
-    requires stands { RowStands (module_of request.now) (row_rules request.now) (texts_of request.now) }
-    requires keys { KeysHold (module_of request.now) (row_rules request.now) (texts_of request.now) (row_rules request.now).keys found.old.held.keys }
-    requires good { early_fault (module_of request.now) (row_rules request.now) (texts_of request.now) ≡ None }
-    ensures ask { found.new.ask ≡ row_ask (module_of request.now) (row_rules request.now) (texts_of request.now) (row_rules request.now).ask }
+    requires stands { RowStands (message_of request.now) }
+    requires keys { KeysHold (message_of request.now) (row_rules request.now).keys found.old.held.keys }
+    requires good { early_fault (message_of request.now) ≡ None }
+    ensures ask { found.new.ask ≡ row_ask (message_of request.now) (row_rules request.now).ask }
     ensures may { CanAsk found.new.ask }
-    ensures checks { AreChecked (module_of request.now) (row_rules request.now) (texts_of request.now) found.new.checked }
-    ensures held { found.new.checked ≡ Passed None → IsHeld (module_of request.now) (row_rules request.now) (texts_of request.now) found.new.held }
+    ensures checks { AreChecked (message_of request.now) found.new.checked }
+    ensures held { found.new.checked ≡ Passed None → IsHeld (message_of request.now) found.new.held }
 {
     match check_late(request, cache, &mut found.held) {
         Err(code) => {
@@ -128,21 +128,51 @@ fn find_late(request: &Request<'_, '_>, cache: &KeyCache, found: &mut Found)
     }
 }
 
-// Finds what the checks of a message come to: nothing of what was found before is kept. It is put in its place, since a
-// key that is handed on by value is copied at each call. It is not inlined, as what makes a plan of it is.
-#[inline(never)]
-#[tactic(auto, unfolding(hsm_answers::specs::Asks::ask_read))]
-pub(crate) fn check_message(request: &Request<'_, '_>, cache: &mut KeyCache, found: &mut Found)
+// Finds what the checks of a message come to whose LMK set is loaded.
+#[tactic(auto, using(crate::proofs::SetSteps::loaded_entries), unfolding(hsm_answers::specs::Asks::ask_read))]
+fn check_loaded(request: &Request<'_, '_>, cache: &mut KeyCache, found: &mut Found)
     requires cache { IsCacheOf (module_of request.now) cache.old }
-    requires stands { RowStands (module_of request.now) (row_rules request.now) (texts_of request.now) }
-    ensures ask { found.new.ask ≡ ask_read (module_of request.now) (row_rules request.now) (Ok (texts_of request.now)) }
+    requires stands { RowStands (message_of request.now) }
+    ensures ask { found.new.ask ≡ ask_read (Ok (message_of request.now)) }
     ensures may { CanAsk found.new.ask }
-    ensures checks { AreChecked (module_of request.now) (row_rules request.now) (texts_of request.now) found.new.checked }
-    ensures held { found.new.checked ≡ Passed None → IsHeld (module_of request.now) (row_rules request.now) (texts_of request.now) found.new.held }
-    ensures cache { Opens (module_of request.now) cache.old cache.new (checks_entries (module_of request.now) (row_rules request.now) (texts_of request.now) (row_rules request.now).keys) }
+    ensures checks { AreChecked (message_of request.now) found.new.checked }
+    ensures held { found.new.checked ≡ Passed None → IsHeld (message_of request.now) found.new.held }
+    ensures cache { Opens (module_of request.now) cache.old cache.new (read_entries (Ok (message_of request.now))) }
 {
     match check_early(request, cache, &mut found.held.keys) {
         Err(code) => *found = refused(Checked::Failed(code)),
         Ok(()) => find_late(request, cache, found),
     }
+}
+
+// Finds what the checks of a message come to, of which the first looks whether its LMK set is loaded: nothing of what was
+// found before is kept. It is put in its place, since a key that is handed on by value is copied at each call. It is not
+// inlined, as what makes a plan of it is.
+#[inline(never)]
+#[tactic(auto, using(crate::proofs::SetSteps::unloaded_before, crate::proofs::SetSteps::unloaded_entries), unfolding(hsm_answers::specs::Asks::ask_read))]
+pub(crate) fn check_message(
+    module: &Module,
+    rules: &'static Rules,
+    fields: &Fields<'_>,
+    cache: &mut KeyCache,
+    found: &mut Found,
+)
+    requires cache { IsCacheOf «module».now cache.old }
+    requires stands { RowStands (message_with «module».now rules.now fields.now) }
+    ensures ask { found.new.ask ≡ ask_read (Ok (message_with «module».now rules.now fields.now)) }
+    ensures may { CanAsk found.new.ask }
+    ensures checks { AreChecked (message_with «module».now rules.now fields.now) found.new.checked }
+    ensures held { found.new.checked ≡ Passed None → IsHeld (message_with «module».now rules.now fields.now) found.new.held }
+    ensures cache { Opens «module».now cache.old cache.new (read_entries (Ok (message_with «module».now rules.now fields.now))) }
+{
+    if usize::from(fields.set) >= module.lmks.len() {
+        *found = refused(Checked::Failed(Code(13)));
+        return;
+    }
+    let request = Request {
+        module,
+        rules,
+        fields,
+    };
+    check_loaded(&request, cache, found);
 }

@@ -7,7 +7,7 @@ ghost use Rattle.hsm_answers.specs.Asks.{as_needs};
 ghost use Rattle.hsm_answers.specs.Values.{word_count};
 ghost use Rattle.hsm_commands.specs.Demands.{word_demands};
 ghost use Rattle.hsm_commands.specs.Needs.{after_need};
-ghost use Rattle.hsm_commands.specs.Request.{Meets, Leaves, module_of, row_rules, texts_of};
+ghost use Rattle.hsm_commands.specs.Request.{Meets, Leaves, row_rules, texts_of, message_of};
 
 use crate::fields::{format_of, number_at, text_of};
 use crate::reply_fields::HeldParts;
@@ -50,7 +50,7 @@ pub(crate) fn is_used(request: &Request<'_, '_>, where_present: Option<u8>) -> b
 // The permit of the act on the type that the row names.
 #[inline]
 pub(crate) fn act_permit(request: &Request<'_, '_>, act: &ActUse) -> Permit
-    ensures { result ≡ act_permit (module_of request.now) (texts_of request.now) act.now }
+    ensures { result ≡ act_permit (message_of request.now) act.now }
 {
     request
         .module
@@ -78,6 +78,7 @@ fn fixed_need(request: &Request<'_, '_>, need: &FixedNeed) -> Activity
             None => None,
         },
         place: Some(need.place),
+        set: Some(request.fields.set),
     }
 }
 
@@ -98,14 +99,15 @@ fn fixed_needs(request: &Request<'_, '_>, needs: &[FixedNeed]) -> Needs
 // The needs of the acts whose permit is A, and then these.
 #[tactic(auto, using(crate::proofs::NeedSteps::after_list))]
 pub(crate) fn needs_of(request: &Request<'_, '_>, acts: &[ActUse], needs: &[FixedNeed]) -> Needs
-    ensures { result ≡ as_needs (act_needs (module_of request.now) (texts_of request.now) acts.now ++ map (fixed_need (texts_of request.now)) needs.now) }
+    ensures { result ≡ as_needs (act_needs (message_of request.now) acts.now ++ map (fixed_need (texts_of request.now)) needs.now) }
 {
     match acts {
         [] => fixed_needs(request, needs),
         [act, more @ ..] => {
             let rest = needs_of(request, more, needs);
             if is_used(request, act.where_present) && act_permit(request, act) == Permit::A {
-                after_need(host_activity(act.act, type_of(request, act.ty)), rest)
+                let ty = type_of(request, act.ty);
+                after_need(host_activity(act.act, ty, request.fields.set), rest)
             } else {
                 rest
             }
@@ -118,7 +120,7 @@ pub(crate) fn needs_of(request: &Request<'_, '_>, acts: &[ActUse], needs: &[Fixe
 pub(crate) fn word_count(request: &Request<'_, '_>, held: &HeldParts) -> u16
     requires stands { Meets request.now held.now.keys (word_demands (row_rules request.now) (row_rules request.now).words) }
     requires left { Leaves request.now held.now.pin }
-    ensures words { result ≡ word_count (module_of request.now) (row_rules request.now) (texts_of request.now) (row_rules request.now).words }
+    ensures words { result ≡ word_count (message_of request.now) (row_rules request.now).words }
     ensures few { result ≤ 12 }
 {
     match request.rules.words {

@@ -4,18 +4,19 @@ ghost use Rattle.std.specs.Str.{bytes_eq};
 ghost use Rattle.sha2.specs.Sha256.{sha256};
 ghost use Rattle.hsm_auth.specs.History.{CanAsk};
 ghost use Rattle.hsm_rows.specs.Forms.{is_minutes};
+ghost use Rattle.hsm_rows.specs.Reading.{read_text_of};
 ghost use Rattle.hsm_rows.specs.declared.rules.AskKind.TheVariants.{AuthoriseAsk, CancelAsk};
 ghost use Rattle.hsm_answers.specs.Keys.{field_text};
 ghost use Rattle.hsm_answers.specs.Answers.{is_authorise};
-ghost use Rattle.hsm_answers.specs.Asks.{are_digests, row_ask, words_hold};
+ghost use Rattle.hsm_answers.specs.Asks.{are_digests, row_ask};
 ghost use Rattle.hsm_commands.specs.Plans.{refuses_words};
-ghost use Rattle.hsm_commands.specs.Request.{module_of, row_rules, texts_of};
+ghost use Rattle.hsm_commands.specs.Request.{texts_of, message_of, message_with};
 
 use crate::fields::text_of;
 use crate::request::Request;
 use hsm_answers::empty_ask;
 use hsm_auth::{Activity, Ask};
-use hsm_rows::{AskKind, decimal_value, same_text};
+use hsm_rows::{AskKind, Fields, Module, Rules, decimal_value, same_text, text_at};
 use sha2::{Digest, Sha256};
 
 // Whether the digest is the word's.
@@ -35,15 +36,11 @@ fn have_digests(digests: [[u8; 32]; 2], first: &[u8], second: &[u8]) -> bool
 // Whether the words of an authorisation, its last two fields, are the officers'. It is not inlined, and neither are the
 // asks of the console below: a host's message should not make their room.
 #[inline(never)]
-#[tactic(auto, unfolding(hsm_answers::specs::Asks::words_hold))]
-fn words_hold(request: &Request<'_, '_>) -> bool
-    ensures { result ≡ words_hold (module_of request.now) (texts_of request.now) }
+fn words_hold(module: &Module, fields: &Fields<'_>) -> bool
+    ensures { result ≡ are_digests «module».now.officers (field_text (read_text_of fields.now) 2) (field_text (read_text_of fields.now) 3) }
 {
-    have_digests(
-        request.module.officers,
-        text_of(request, 2),
-        text_of(request, 3),
-    )
+    let texts = fields.texts.as_slice();
+    have_digests(module.officers, text_at(texts, 2), text_at(texts, 3))
 }
 
 // Whether the row authorises.
@@ -53,22 +50,23 @@ fn is_authorise(ask: AskKind) -> bool
     matches!(ask, AskKind::AuthoriseAsk)
 }
 
-// Whether the row authorises, and the words aren't the officers'.
-pub(crate) fn refuses_words(request: &Request<'_, '_>) -> bool
-    ensures { result ≡ refuses_words (module_of request.now) (row_rules request.now) (texts_of request.now) }
+// Whether the row authorises, and the words aren't the officers': also where the message's LMK set isn't loaded.
+#[tactic(auto, unfolding(hsm_answers::specs::Asks::words_hold))]
+pub(crate) fn refuses_words(module: &Module, rules: &Rules, fields: &Fields<'_>) -> bool
+    ensures { result ≡ refuses_words (message_with «module».now rules.now fields.now) }
 {
-    is_authorise(request.rules.ask) && !words_hold(request)
+    is_authorise(rules.ask) && !words_hold(module, fields)
 }
 
 // What an authorisation asks: nothing where the words aren't the officers'.
 #[inline(never)]
-#[tactic(auto, unfolding(hsm_answers::specs::Asks::row_ask))]
+#[tactic(auto, unfolding(hsm_answers::specs::Asks::row_ask, hsm_answers::specs::Asks::words_hold))]
 pub(crate) fn authorised(request: &Request<'_, '_>) -> Ask
     requires { is_minutes (field_text (texts_of request.now) 1) ≡ true }
-    ensures ask { result ≡ row_ask (module_of request.now) (row_rules request.now) (texts_of request.now) AuthoriseAsk }
+    ensures ask { result ≡ row_ask (message_of request.now) AuthoriseAsk }
     ensures may { CanAsk result }
 {
-    if !words_hold(request) {
+    if !words_hold(request.module, request.fields) {
         return empty_ask();
     }
     match Activity::read(text_of(request, 0)) {
@@ -84,7 +82,7 @@ pub(crate) fn authorised(request: &Request<'_, '_>) -> Ask
 #[inline(never)]
 #[tactic(auto, unfolding(hsm_answers::specs::Asks::row_ask))]
 pub(crate) fn cancelled(request: &Request<'_, '_>) -> Ask
-    ensures ask { result ≡ row_ask (module_of request.now) (row_rules request.now) (texts_of request.now) CancelAsk }
+    ensures ask { result ≡ row_ask (message_of request.now) CancelAsk }
     ensures may { CanAsk result }
 {
     let text = text_of(request, 0);

@@ -2,13 +2,13 @@
 ghost use Rattle.std.specs.Prelude.{◌≡◌, ◌+◌, ◌^◌, ◌<◌, ◌≤◌, ◌++◌, [], true, false, length};
 ghost use Rattle.hsm_auth.specs.History.{CanAsk, Fits};
 ghost use Rattle.hsm_rows.specs.Reading.{is_console, read_text_of};
-ghost use Rattle.hsm_rows.specs.Table.{shape_of, rules_of};
+ghost use Rattle.hsm_rows.specs.Table.{shape_of};
 ghost use Rattle.hsm_answers.specs.Answers.{answer, is_full};
 ghost use Rattle.hsm_answers.specs.Asks.{ask_of};
 ghost use Rattle.hsm_answers.specs.Kept.{IsCacheOf, Opens, opened_by};
 ghost use Rattle.hsm_answers.specs.Values.{first_of, values};
 ghost use Rattle.hsm_commands.specs.Demands.{terms_room};
-ghost use Rattle.hsm_commands.specs.Plans.{FitsEcho, plan_row, plan_text, plan_ask, plan_read, written_fields, IsPlanOf, IsFollowed, IsReady};
+ghost use Rattle.hsm_commands.specs.Plans.{FitsEcho, plan_row, plan_text, plan_ask, plan_read, written_fields, IsPlanOf, IsFollowed, IsReady, plan_message};
 
 use crate::message_checks::{Found, check_message, refused};
 use crate::officers::refuses_words;
@@ -51,11 +51,11 @@ fn put_fields(
     granted: &Granted,
     reply: &mut Reply,
 )
-    requires ready { IsReady «module».now (rules_of (plan_row plan.now)) (plan_row plan.now).terms (plan_read plan.now) plan.now.found.held }
+    requires ready { IsReady (plan_message «module».now plan.now) (plan_row plan.now).terms plan.now.found.held }
     requires place { first_of granted.now < 2 ^ 63 }
     requires room { length reply.old + terms_room (plan_read plan.now) (plan_row plan.now).terms ≤ 65535 }
     ensures text { reply.new ≡ reply.old ++ written_fields (is_console (plan_row plan.now))
-        (values «module».now (rules_of (plan_row plan.now)) (plan_read plan.now) granted.now (plan_row plan.now).terms) }
+        (values (plan_message «module».now plan.now) granted.now (plan_row plan.now).terms) }
     ensures grown { length reply.new ≤ length reply.old + terms_room (plan_read plan.now) (plan_row plan.now).terms }
 {
     let request = Request {
@@ -82,10 +82,11 @@ fn put_fields(
 
 // No field was read.
 fn no_fields<'m>() -> Fields<'m>
-    ensures { read_text_of result ≡ record { texts = []; trailer = [] } }
+    ensures { read_text_of result ≡ record { texts = []; set = 0; trailer = [] } }
 {
     Fields {
         texts: ArrayVec::new(),
+        set: 0,
         trailer: b"",
     }
 }
@@ -120,14 +121,10 @@ pub fn prepare_cached<'m>(
             wrong_words: false,
         },
         Ok(fields) => {
-            let request = Request {
-                module,
-                rules: row.rules.rules(),
-                fields: &fields,
-            };
-            let wrong_words = refuses_words(&request);
+            let rules = row.rules.rules();
+            let wrong_words = refuses_words(module, rules, &fields);
             let mut found = refused(Checked::Passed(None));
-            check_message(&request, cache, &mut found);
+            check_message(module, rules, &fields, cache, &mut found);
             Plan {
                 row,
                 text,

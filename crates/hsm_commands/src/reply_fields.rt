@@ -8,11 +8,11 @@ ghost use Rattle.hsm_answers.specs.Answers.{is_present};
 ghost use Rattle.hsm_answers.specs.Values.{secret_key, value_of, value, values, first_of, spaced};
 ghost use Rattle.hsm_commands.specs.Demands.{key_drawn, pin_at_end, pin_demands, pin_there, public_demands, secret_demands, secret_parts, term_demands, term_room, terms_room};
 ghost use Rattle.hsm_commands.specs.Plans.{IsAtEntry, written_fields};
-ghost use Rattle.hsm_commands.specs.Request.{Meets, Leaves, module_of, row_rules, texts_of};
-ghost use Rattle.hsm_commands.specs.Entries.{Has, HasEach, Stands, public_at, term_at, rules_at, texts_at, place_at};
+ghost use Rattle.hsm_commands.specs.Request.{Meets, Leaves, row_rules, texts_of, message_of};
+ghost use Rattle.hsm_commands.specs.Entries.{Has, HasEach, Stands, public_at, term_at, message_at, rules_at, texts_at, place_at};
 
 use crate::components::joined_key;
-use crate::fields::{format_of, number_at, text_of};
+use crate::fields::{format_of, lmk_of, number_at, text_of};
 use crate::keys::{OpenedKeys, held_key};
 use crate::needs::type_of;
 use crate::reply_console::{live_of, put_cancelled, put_clear, put_grants, put_notes, put_numbers};
@@ -53,7 +53,7 @@ pub(crate) fn pin_at_entry(request: &Request<'_, '_>, held: &HeldParts, place: u
     requires stands { Meets request.now held.now.keys (pin_demands (row_rules request.now).pin) }
     requires left { Leaves request.now held.now.pin }
     requires place { place < 2 ^ 63 }
-    ensures pin { IfSome result (λ p. p ≡ pin_of (module_of request.now) (row_rules request.now) (texts_of request.now) place) }
+    ensures pin { IfSome result (λ p. p ≡ pin_of (message_of request.now) place) }
     ensures there { is_some result ≡ pin_there (row_rules request.now).pin (pin_at_end false (row_rules request.now).checks) }
 {
     match request.rules.pin {
@@ -73,7 +73,7 @@ pub(crate) fn pin_at_entry(request: &Request<'_, '_>, held: &HeldParts, place: u
 #[tactic(auto, unfolding(hsm_answers::specs::Values::word_count))]
 pub(crate) fn key_at_entry(request: &Request<'_, '_>, place: u64) -> Option<Key>
     requires { place < 2 ^ 63 }
-    ensures { result ≡ key_drawn (module_of request.now) (row_rules request.now) (texts_of request.now) place }
+    ensures { result ≡ key_drawn (message_of request.now) place }
 {
     match request.rules.words {
         Words::TwoPerPart(_) => {
@@ -89,8 +89,8 @@ pub(crate) fn key_at_entry(request: &Request<'_, '_>, place: u64) -> Option<Key>
 fn secret_key(entry: &Entry<'_, '_>, secret: Secret) -> Key
     requires stands { Has entry.now (secret_demands (rules_at entry.now) secret) }
     requires entry { Stands entry.now }
-    ensures key { result ≡ secret_key (module_of entry.now.request.now) (rules_at entry.now) (texts_at entry.now) (place_at entry.now) secret }
-    ensures parts { length result ≡ secret_parts (module_of entry.now.request.now) (rules_at entry.now) (texts_at entry.now) secret }
+    ensures key { result ≡ secret_key (message_at entry.now) (place_at entry.now) secret }
+    ensures parts { length result ≡ secret_parts (message_at entry.now) secret }
 {
     match secret {
         Secret::Opened(k) => held_key(&entry.held.keys, k),
@@ -116,7 +116,7 @@ fn put_sealed_key(entry: &Entry<'_, '_>, secret: Secret, reply: &mut Reply)
     let request = entry.request;
     let made = request.rules.made;
     let key = secret_key(entry, secret);
-    let pair = wrapping_pair(&request.module.lmk, type_of(request, made.ty));
+    let pair = wrapping_pair(lmk_of(request), type_of(request, made.ty));
     put_key(
         reply,
         &pair,
@@ -159,7 +159,7 @@ fn put_wrapped_key(entry: &Entry<'_, '_>, secret: Secret, kek: u8, reply: &mut R
 fn entry_pin(entry: &Entry<'_, '_>) -> Pin
     requires there { is_some entry.now.pin ≡ true }
     requires entry { Stands entry.now }
-    ensures { result ≡ pin_of (module_of entry.now.request.now) (rules_at entry.now) (texts_at entry.now) (place_at entry.now) }
+    ensures { result ≡ pin_of (message_at entry.now) (place_at entry.now) }
 {
     match entry.pin {
         Some(pin) => pin,
@@ -179,7 +179,7 @@ fn put_sealed_pin(entry: &Entry<'_, '_>, reply: &mut Reply)
 {
     let request = entry.request;
     let account = account_of(request);
-    put_sealed(&request.module.lmk, &entry_pin(entry), &account, reply);
+    put_sealed(lmk_of(request), &entry_pin(entry), &account, reply);
 }
 
 // Appends the block of the PIN in the format that a field names, under the key of a field.
@@ -225,7 +225,7 @@ fn put_term(entry: &Entry<'_, '_>, term: &Public, reply: &mut Reply)
         Public::ShowPin => reply.put(&filled_to_twelve(&entry_pin(entry))),
         Public::Value => reply.put(entry.held.value.text()),
         Public::Chain => reply.put(entry.held.chain.text()),
-        Public::LmkCheck => put_block(reply, lmk_check(&entry.request.module.lmk)),
+        Public::LmkCheck => put_block(reply, lmk_check(lmk_of(entry.request))),
         Public::LiveGrants => reply.put(&Code(live_of(entry.granted).len() as u8).digits()),
         Public::Hosts => reply.put(&Code(entry.request.module.hosts).digits()),
         Public::Done => {}
@@ -242,7 +242,7 @@ pub(crate) fn put_terms(entry: &Entry<'_, '_>, terms: &[Public], reply: &mut Rep
     requires stands { HasEach entry.now (map (term_demands (rules_at entry.now)) (map term_of terms.now)) }
     requires entry { Stands entry.now }
     requires room { length reply.old + terms_room (texts_at entry.now) (map term_of terms.now) ≤ 65535 }
-    ensures text { reply.new ≡ reply.old ++ written_fields false (values (module_of entry.now.request.now) (rules_at entry.now) (texts_at entry.now) entry.now.granted.now (map term_of terms.now)) }
+    ensures text { reply.new ≡ reply.old ++ written_fields false (values (message_at entry.now) entry.now.granted.now (map term_of terms.now)) }
     ensures grown { length reply.new ≤ length reply.old + terms_room (texts_at entry.now) (map term_of terms.now) }
 {
     match terms {
@@ -277,7 +277,7 @@ pub(crate) fn put_spaced(entry: &Entry<'_, '_>, terms: &[Public], reply: &mut Re
     requires stands { HasEach entry.now (map (term_demands (rules_at entry.now)) (map term_of terms.now)) }
     requires entry { Stands entry.now }
     requires room { length reply.old + terms_room (texts_at entry.now) (map term_of terms.now) ≤ 65535 }
-    ensures text { reply.new ≡ reply.old ++ written_fields true (values (module_of entry.now.request.now) (rules_at entry.now) (texts_at entry.now) entry.now.granted.now (map term_of terms.now)) }
+    ensures text { reply.new ≡ reply.old ++ written_fields true (values (message_at entry.now) entry.now.granted.now (map term_of terms.now)) }
     ensures grown { length reply.new ≤ length reply.old + terms_room (texts_at entry.now) (map term_of terms.now) }
 {
     match terms {

@@ -10,7 +10,7 @@ ghost use Rattle.hsm_commands.specs.declared.value.Written.TheVariants.{Nothing}
 ghost use Rattle.hsm_answers.specs.Checks.{checks_fault};
 ghost use Rattle.hsm_commands.specs.Demands.{IsTwelveDigits, account_field, holds_pin, value_demands};
 ghost use Rattle.hsm_commands.specs.Written.{written_text};
-ghost use Rattle.hsm_commands.specs.Request.{Meets, Leaves, module_of, row_rules, texts_of};
+ghost use Rattle.hsm_commands.specs.Request.{Meets, Leaves, row_rules, texts_of, message_of};
 
 use crate::fields::{digits_of, number_at, text_of};
 use crate::keys::{OpenedKeys, held_key};
@@ -90,7 +90,7 @@ pub(crate) fn account_of(request: &Request<'_, '_>) -> [u8; 12]
 pub(crate) fn held_pin(request: &Request<'_, '_>, pin: &Option<Pin>) -> Pin
     requires holds { holds_pin (row_rules request.now) ≡ true }
     requires left { Leaves request.now pin.now }
-    ensures pin { result ≡ given_pin (module_of request.now) (row_rules request.now) (texts_of request.now) }
+    ensures pin { result ≡ given_pin (message_of request.now) }
     ensures held { pin.now ≡ Some result }
 {
     let _ = request;
@@ -121,9 +121,9 @@ pub(crate) fn value_of(
 ) -> Texts
     requires stands { Meets request.now keys.now (value_demands (row_rules request.now) source) }
     requires left { Leaves request.now pin.now }
-    requires good { checks_fault (module_of request.now) (row_rules request.now) (texts_of request.now) ≡ None }
-    ensures value { written_text result.value ≡ row_value (module_of request.now) (row_rules request.now) (texts_of request.now) source }
-    ensures chain { written_text result.chain ≡ chain_value (module_of request.now) (row_rules request.now) (texts_of request.now) source }
+    requires good { checks_fault (message_of request.now) ≡ None }
+    ensures value { written_text result.value ≡ row_value (message_of request.now) source }
+    ensures chain { written_text result.chain ≡ chain_value (message_of request.now) source }
 {
     match source {
         ValueSource::NoValue => alone(Written::Nothing),

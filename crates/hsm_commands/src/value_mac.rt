@@ -11,7 +11,7 @@ ghost use Rattle.hsm_answers.specs.Plans.{code_number};
 ghost use Rattle.hsm_commands.specs.Macs.{AreMacTexts, ends_by, mac_asked, part_by, refused_by, value_under};
 ghost use Rattle.hsm_commands.specs.Demands.{value_demands};
 ghost use Rattle.hsm_commands.specs.Written.{written_text};
-ghost use Rattle.hsm_commands.specs.Request.{Meets, module_of, row_rules, texts_of};
+ghost use Rattle.hsm_commands.specs.Request.{Meets, row_rules, texts_of, message_of};
 
 use crate::fields::text_of;
 use crate::keys::{OpenedKeys, held_key};
@@ -169,9 +169,9 @@ fn mac_digits(size: &[u8], digits: &[u8; 16]) -> Written
 #[tactic(auto, unfolding(hsm_answers::specs::Values::row_value, hsm_answers::specs::Values::chain_value))]
 pub(crate) fn mac_texts(request: &Request<'_, '_>, keys: &OpenedKeys, f: &MacFields) -> Texts
     requires stands { Meets request.now keys.now (value_demands (row_rules request.now) (MacOf f.now)) }
-    requires good { checks_fault (module_of request.now) (row_rules request.now) (texts_of request.now) ≡ None }
-    ensures value { written_text result.value ≡ row_value (module_of request.now) (row_rules request.now) (texts_of request.now) (MacOf f.now) }
-    ensures chain { written_text result.chain ≡ chain_value (module_of request.now) (row_rules request.now) (texts_of request.now) (MacOf f.now) }
+    requires good { checks_fault (message_of request.now) ≡ None }
+    ensures value { written_text result.value ≡ row_value (message_of request.now) (MacOf f.now) }
+    ensures chain { written_text result.chain ≡ chain_value (message_of request.now) (MacOf f.now) }
 {
     let digits = block_characters(data_value(request, f, &held_key(keys, f.key)));
     if ends_by(text_of(request, f.mode)) {

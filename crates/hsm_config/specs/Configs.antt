@@ -37,7 +37,7 @@ config_in bytes = read_of (document_of bytes)
 -- the module of a configuration and a seed: the permits of the table of key types, and no row disabled
 unfoldable pub module_of : Config → List ℕ → Module
 module_of config seed = record {
-  lmk = map pair_key config.pairs;
+  lmks = record { items = map pair_key config.pairs ∷ [] };
   permits = table_permits;
   disabled = record { items = [] };
   header = config.header;

@@ -81,17 +81,19 @@ impl Config {
         requires some_host { 1 ≤ length self.now.host_ports.items }
         ensures { result ≡ module_of self.now seed }
     {
+        let mut lmks = ArrayVec::new();
         match LmkSet::of(&self.pairs) {
-            Ok(lmk) => Module {
-                lmk,
-                permits: Permits::table(),
-                disabled: ArrayVec::new(),
-                header: self.header,
-                hosts: self.host_ports.len() as u8,
-                officers: self.officers,
-                seed,
-            },
+            Ok(set) => lmks.push(set),
             Err(_) => unreachable!(),
+        }
+        Module {
+            lmks,
+            permits: Permits::table(),
+            disabled: ArrayVec::new(),
+            header: self.header,
+            hosts: self.host_ports.len() as u8,
+            officers: self.officers,
+            seed,
         }
     }
 }

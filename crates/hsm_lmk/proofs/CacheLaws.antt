@@ -1,6 +1,7 @@
 -- Keys among the entries of a cache.
 use Rattle.std.proofs.Common.{◌≡◌, ℕ, zero, suc, ◌∙◌, Bool, true, false, ◌&&◌, if◌then◌else◌, nat_lt, List, [], ◌∷◌, ◌++◌, length, refl, sym, ap, subst, arith}
-use Rattle.std.specs.Prelude.{Option, Some, None, Ok, drop, find, is_some, option_map, cond}
+use Rattle.std.specs.Prelude.{Option, Some, None, Ok, drop, find, is_some, option_map, cond, ◌==◌}
+use Rattle.std.proofs.lemmas.Bool.Decides.{nat_tests}
 use Rattle.std.specs.Str.{bytes_eq}
 use Rattle.std.proofs.lemmas.List.Elements.{All-append, All-drop}
 use Rattle.std.proofs.lemmas.Slice.Eq.{bytes_eq-Decides}
@@ -13,6 +14,7 @@ use Rattle.hsm_types.proofs.SameType.{same_type-true}
 use Rattle.hsm_types.proofs.SameScheme.{same_scheme-true}
 use Rattle.hsm_lmk.specs.Opened.{open_answer}
 use Rattle.hsm_lmk.specs.Opening.{refuses_scheme}
+use Rattle.hsm_lmk.specs.Pairs.{set_at}
 use Rattle.hsm_lmk.specs.Sealing.{wrap}
 use Rattle.hsm_lmk.specs.Cache.{Agrees, IsEntry, entry_of, is_of, within}
 use Rattle.hsm_lmk.specs.declared.kept.KeyEntry.{KeyEntry}
@@ -59,39 +61,45 @@ was_missed (Some x) e = cc
 abbrev pub answers : List (List (List ℕ)) → KeyType → Scheme → List ℕ → List (List ℕ) → Type 0
 answers set ty s text key = open_answer (refuses_scheme ty s) (allows_length ty (scheme_parts s)) (wrap set ty) s text ≡ Ok key
 
--- the entry that has the type, the scheme and the text has the key that opening answers
-entry_answers : (set : List (List (List ℕ))) (ty : KeyType) (s : Scheme) (text : List ℕ) (e : KeyEntry) → is_of ty s text e ≡ true → IsEntry set e → answers set ty s text e.key
-entry_answers set ty s text e is h =
-    let type_is : e.ty ≡ ty = same_type-true e.ty ty (and-left (same_type e.ty ty) (same_scheme e.scheme s && bytes_eq e.text.items text) is) in
-    let rest = and-right (same_type e.ty ty) (same_scheme e.scheme s && bytes_eq e.text.items text) is in
+same_number : (a b : ℕ) → (a == b) ≡ true → a ≡ b
+same_number a b h = grind (arith, nat_tests)
+
+-- the entry that has the set, the type, the scheme and the text has the key that opening answers
+entry_answers : (sets : List (List (List (List ℕ)))) (n : ℕ) (ty : KeyType) (s : Scheme) (text : List ℕ) (e : KeyEntry) → is_of n ty s text e ≡ true → IsEntry sets e → answers (set_at sets n) ty s text e.key
+entry_answers sets n ty s text e is h =
+    let set_is : e.set ≡ n = same_number e.set n (and-left (e.set == n) (same_type e.ty ty && (same_scheme e.scheme s && bytes_eq e.text.items text)) is) in
+    let more = and-right (e.set == n) (same_type e.ty ty && (same_scheme e.scheme s && bytes_eq e.text.items text)) is in
+    let type_is : e.ty ≡ ty = same_type-true e.ty ty (and-left (same_type e.ty ty) (same_scheme e.scheme s && bytes_eq e.text.items text) more) in
+    let rest = and-right (same_type e.ty ty) (same_scheme e.scheme s && bytes_eq e.text.items text) more in
     let scheme_is : e.scheme ≡ s = same_scheme-true e.scheme s (and-left (same_scheme e.scheme s) (bytes_eq e.text.items text) rest) in
     let text_is : e.text.items ≡ text = (bytes_eq-Decides e.text.items text).0 (and-right (same_scheme e.scheme s) (bytes_eq e.text.items text) rest) in
-    subst (λ t. answers set t s text e.key) type_is
-    (subst (λ c. answers set e.ty c text e.key) scheme_is
-    (subst (λ x. answers set e.ty e.scheme x e.key) text_is h))
+    subst (λ k. answers (set_at sets k) ty s text e.key) set_is
+    (subst (λ t. answers (set_at sets e.set) t s text e.key) type_is
+    (subst (λ c. answers (set_at sets e.set) e.ty c text e.key) scheme_is
+    (subst (λ x. answers (set_at sets e.set) e.ty e.scheme x e.key) text_is h.1)))
 
--- a key that is found among entries that agree with the set is what opening answers
-pub found_answers : (set : List (List (List ℕ))) (ty : KeyType) (s : Scheme) (text : List ℕ) (es : List KeyEntry) (key : List (List ℕ)) → Agrees set es → Some key ≡ key_in (entry_of ty s text es) → Ok key ≡ open_answer (refuses_scheme ty s) (allows_length ty (scheme_parts s)) (wrap set ty) s text
-found_answers set ty s text [] key h e = cc
-found_answers set ty s text (x ∷ xs) key h e = by (is_of ty s text x) refl (λ e. found_answers set ty s text xs key (All-drop (IsEntry set) 1 (x ∷ xs) h) e) e
+-- a key that is found among entries that agree with the sets is what opening answers
+pub found_answers : (sets : List (List (List (List ℕ)))) (n : ℕ) (ty : KeyType) (s : Scheme) (text : List ℕ) (es : List KeyEntry) (key : List (List ℕ)) → Agrees sets es → Some key ≡ key_in (entry_of n ty s text es) → Ok key ≡ open_answer (refuses_scheme ty s) (allows_length ty (scheme_parts s)) (wrap (set_at sets n) ty) s text
+found_answers sets n ty s text [] key h e = cc
+found_answers sets n ty s text (x ∷ xs) key h e = by (is_of n ty s text x) refl (λ e. found_answers sets n ty s text xs key (All-drop (IsEntry sets) 1 (x ∷ xs) h) e) e
   where
-    by : (t : Bool) → is_of ty s text x ≡ t → (Some key ≡ key_in (entry_of ty s text xs) → Ok key ≡ open_answer (refuses_scheme ty s) (allows_length ty (scheme_parts s)) (wrap set ty) s text) → Some key ≡ key_in (cond t (Some x) (entry_of ty s text xs)) → Ok key ≡ open_answer (refuses_scheme ty s) (allows_length ty (scheme_parts s)) (wrap set ty) s text
-    by true is later e = let same : key ≡ x.key = cc in ap Ok same ∙ sym (entry_answers set ty s text x is (h 0 x (omega arith)))
+    by : (t : Bool) → is_of n ty s text x ≡ t → (Some key ≡ key_in (entry_of n ty s text xs) → Ok key ≡ open_answer (refuses_scheme ty s) (allows_length ty (scheme_parts s)) (wrap (set_at sets n) ty) s text) → Some key ≡ key_in (cond t (Some x) (entry_of n ty s text xs)) → Ok key ≡ open_answer (refuses_scheme ty s) (allows_length ty (scheme_parts s)) (wrap (set_at sets n) ty) s text
+    by true is later e = let same : key ≡ x.key = cc in ap Ok same ∙ sym (entry_answers sets n ty s text x is (h 0 x (omega arith)))
     by false is later e = later e
 
 -- one more entry that agrees, and the oldest gone where there are then too many
-pub agrees_appended : (set : List (List (List ℕ))) (n : ℕ) (es : List KeyEntry) (e : KeyEntry) → Agrees set es → IsEntry set e → Agrees set (within n (es ++ e ∷ []))
-agrees_appended set n es e h is = by (nat_lt n (length (es ++ e ∷ [])))
+pub agrees_appended : (sets : List (List (List (List ℕ)))) (n : ℕ) (es : List KeyEntry) (e : KeyEntry) → Agrees sets es → IsEntry sets e → Agrees sets (within n (es ++ e ∷ []))
+agrees_appended sets n es e h is = by (nat_lt n (length (es ++ e ∷ [])))
   where
-    all : Agrees set (es ++ e ∷ [])
-    all = All-append (IsEntry set) es (e ∷ []) h one
+    all : Agrees sets (es ++ e ∷ [])
+    all = All-append (IsEntry sets) es (e ∷ []) h one
       where
-        one : Agrees set (e ∷ [])
+        one : Agrees sets (e ∷ [])
         one zero d k = is
         one (suc i) d k = absurd (omega arith)
 
-    by : (t : Bool) → Agrees set (if t then drop 1 (es ++ e ∷ []) else es ++ e ∷ [])
-    by true = All-drop (IsEntry set) 1 (es ++ e ∷ []) all
+    by : (t : Bool) → Agrees sets (if t then drop 1 (es ++ e ∷ []) else es ++ e ∷ [])
+    by true = All-drop (IsEntry sets) 1 (es ++ e ∷ []) all
     by false = all
 
 -- a copy of a text answers as the text does

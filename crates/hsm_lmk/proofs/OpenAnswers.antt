@@ -1,12 +1,14 @@
 -- What opening a text answers, as a function.
 use Rattle.std.proofs.Common.{subst, ◌≡◌, ℕ, zero, suc, ◌∙◌, Bool, true, false, ◌&&◌, List, [], ◌∷◌, refl, sym, ap, arith}
-use Rattle.std.specs.Prelude.{◌↔◌, ◌*◌, ◌^◌, ◌<◌, if◌then◌else◌, length, All, Result, Ok, Err}
+use lib.Count.{ones}
+use Rattle.std.proofs.lemmas.Bool.Decides.{nat_tests}
+use Rattle.std.specs.Prelude.{◌↔◌, ◌*◌, ◌^◌, ◌<◌, ◌==◌, replicate, if◌then◌else◌, length, All, Result, Ok, Err}
 use Rattle.std.specs.Bool.{Decides}
 use Rattle.std.specs.List.{list_all}
 use Rattle.hsm_parity.specs.Parity.{IsOdd, has_odd_parity}
 use Rattle.hsm_types.specs.declared.types.Scheme.{Scheme}
 use Rattle.hsm_lmk.specs.Opening.{Opens}
-use Rattle.hsm_lmk.specs.Pairs.{AllOdd}
+use Rattle.hsm_lmk.specs.Pairs.{AllOdd, IsLmkSet}
 use Rattle.hsm_lmk.specs.Opened.{opened, all_odd, open_answer}
 use Rattle.hsm_lmk.specs.declared.OpenFault.{OpenFault}
 use Rattle.hsm_lmk.specs.declared.OpenFault.TheVariants as fault
@@ -45,6 +47,28 @@ odd_part part = (to_All IsOdd has_odd_parity odd_byte part, from_All IsOdd has_o
 pub all_odd-Decides : (key : List (List ℕ)) → Decides (all_odd key) (AllOdd key)
 unfolding all_odd
 all_odd-Decides key = (to_All (λ part. All IsOdd part) (λ part. list_all has_odd_parity part) odd_part key, from_All (λ part. All IsOdd part) (λ part. list_all has_odd_parity part) odd_part key)
+
+two_long : (pair : List (List ℕ)) → Decides (length pair == 2) (length pair ≡ 2)
+two_long pair = (λ h. grind (arith, nat_tests), λ h. grind (arith, nat_tests))
+
+blank_key : List (List ℕ)
+blank_key = replicate 8 1 ∷ replicate 8 1 ∷ []
+
+blank_odd : list_all all_odd (replicate 20 blank_key) ≡ true
+unfolding all_odd blank_key ones
+blank_odd = refl
+
+-- twenty pairs of bytes 01 are a set
+pub blank_is_set : (key : List (List ℕ)) (pairs : List (List (List ℕ))) → key ≡ replicate 8 1 ∷ replicate 8 1 ∷ [] → pairs ≡ replicate 20 key → IsLmkSet pairs
+unfolding blank_key
+blank_is_set key pairs k p =
+    let P : List (List (List ℕ)) → Type 0 = λ x. IsLmkSet x in
+    let same : replicate 20 blank_key ≡ pairs = ap (replicate 20) (sym k) ∙ sym p in
+    subst P same (record {
+      twenty = refl;
+      parts = to_All (λ pair. length pair ≡ 2) (λ pair. length pair == 2) two_long (replicate 20 blank_key) refl;
+      odd = to_All AllOdd all_odd all_odd-Decides (replicate 20 blank_key) blank_odd;
+    })
 
 not_true : (b : Bool) → (b ≡ true → ⊥) → b ≡ false
 not_true true h = absurd (h refl)

@@ -1,5 +1,5 @@
--- Keys that were opened under LMK pairs, kept by their types, schemes and texts.
-use Rattle.std.specs.Prelude.{◌≡◌, ℕ, ◌+◌, ◌^◌, Bool, ◌&&◌, if◌then◌else◌, min, nat_lt, List, [], ◌∷◌, ◌++◌, length, drop, find, is_some, Option, All, Ok}
+-- Keys that were opened under LMK pairs, kept by their sets, types, schemes and texts.
+use Rattle.std.specs.Prelude.{◌≡◌, ℕ, ◌+◌, ◌^◌, ◌<◌, ◌==◌, Bool, ◌&&◌, if◌then◌else◌, min, nat_lt, List, [], ◌∷◌, ◌++◌, length, drop, find, is_some, Option, All, Ok}
 use Rattle.std.specs.Str.{bytes_eq}
 use Rattle.hsm_types.specs.KeyTypes.{same_type}
 use Rattle.hsm_types.specs.Schemes.{same_scheme, scheme_parts}
@@ -8,16 +8,17 @@ use Rattle.hsm_types.specs.declared.types.KeyType.{KeyType}
 use Rattle.hsm_types.specs.declared.types.Scheme.{Scheme}
 use Rattle.hsm_lmk.specs.Opened.{open_answer}
 use Rattle.hsm_lmk.specs.Opening.{refuses_scheme}
+use Rattle.hsm_lmk.specs.Pairs.{set_at}
 use Rattle.hsm_lmk.specs.Sealing.{wrap}
 use Rattle.hsm_lmk.specs.declared.kept.KeyEntry.{KeyEntry}
 
--- the entry has this type, this scheme and this text
-abbrev pub is_of : KeyType → Scheme → List ℕ → KeyEntry → Bool
-is_of ty s text e = same_type e.ty ty && (same_scheme e.scheme s && bytes_eq e.text.items text)
+-- the entry has this set, this type, this scheme and this text
+abbrev pub is_of : ℕ → KeyType → Scheme → List ℕ → KeyEntry → Bool
+is_of n ty s text e = e.set == n && (same_type e.ty ty && (same_scheme e.scheme s && bytes_eq e.text.items text))
 
 -- the first entry that has them
-abbrev pub entry_of : KeyType → Scheme → List ℕ → List KeyEntry → Option KeyEntry
-entry_of ty s text entries = find (is_of ty s text) entries
+abbrev pub entry_of : ℕ → KeyType → Scheme → List ℕ → List KeyEntry → Option KeyEntry
+entry_of n ty s text entries = find (is_of n ty s text) entries
 
 -- the entries, the oldest first, and how often a key was found among them
 pub record Kept : Type 0 where
@@ -28,10 +29,10 @@ pub record Kept : Type 0 where
 abbrev pub within : ℕ → List KeyEntry → List KeyEntry
 within capacity entries = if nat_lt capacity (length entries) then drop 1 entries else entries
 
--- after one more key was opened: an entry that has its type, scheme and text counts as found and nothing moves; else the key is appended
+-- after one more key was opened: an entry that has its set, type, scheme and text counts as found and nothing moves; else the key is appended
 unfoldable pub kept_one : ℕ → Kept → KeyEntry → Kept
 kept_one capacity kept e =
-    if is_some (entry_of e.ty e.scheme e.text.items kept.entries) then record { entries = kept.entries; hits = min (kept.hits + 1) (2 ^ 63) }
+    if is_some (entry_of e.set e.ty e.scheme e.text.items kept.entries) then record { entries = kept.entries; hits = min (kept.hits + 1) (2 ^ 63) }
     else record { entries = within capacity (kept.entries ++ e ∷ []); hits = kept.hits }
 
 -- after these keys were opened, one after another
@@ -39,10 +40,12 @@ abbrev pub kept_all : ℕ → Kept → List KeyEntry → Kept
 kept_all capacity kept [] = kept
 kept_all capacity kept (e ∷ es) = kept_all capacity (kept_one capacity kept e) es
 
--- what opening an entry's text answers is its key
-abbrev pub IsEntry : List (List (List ℕ)) → KeyEntry → Type 0
-IsEntry set e = open_answer (refuses_scheme e.ty e.scheme) (allows_length e.ty (scheme_parts e.scheme)) (wrap set e.ty) e.scheme e.text.items ≡ Ok e.key
+-- the set of an entry is loaded, and what opening its text under that set answers is its key
+abbrev pub IsEntry : List (List (List (List ℕ))) → KeyEntry → Type 0
+IsEntry sets e =
+    (e.set < length sets)
+    × (open_answer (refuses_scheme e.ty e.scheme) (allows_length e.ty (scheme_parts e.scheme)) (wrap (set_at sets e.set) e.ty) e.scheme e.text.items ≡ Ok e.key)
 
--- the entries agree with the set: each has the key that its text opens to
-abbrev pub Agrees : List (List (List ℕ)) → List KeyEntry → Type 0
-Agrees set entries = All (IsEntry set) entries
+-- the entries agree with the sets: each has the key that its text opens to under its set
+abbrev pub Agrees : List (List (List (List ℕ))) → List KeyEntry → Type 0
+Agrees sets entries = All (IsEntry sets) entries

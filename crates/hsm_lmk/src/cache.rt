@@ -1,5 +1,5 @@
 //! A cache of keys that were opened under LMK pairs.
-ghost use Rattle.std.specs.Prelude.{◌≡◌, ◌≤◌, ◌^◌, ◌*◌, ◌++◌, ◌∷◌, [], length, min, take, ◌+◌, IfOk, IfErr, IfSome, option_map, option_copied};
+ghost use Rattle.std.specs.Prelude.{◌≡◌, ◌≤◌, ◌<◌, ◌^◌, ◌*◌, ◌++◌, ◌∷◌, [], length, min, take, ◌+◌, IfOk, IfErr, IfSome, option_map, option_copied};
 ghost use Rattle.std.specs.Int.{w64, from_be_bytes};
 ghost use Rattle.std.specs.Str.{bytes_eq};
 ghost use Rattle.hsm_tdes.specs.Tdes.{enciphered, deciphered};
@@ -9,11 +9,12 @@ ghost use Rattle.hsm_lmk.specs.Cache.{Agrees, entry_of, is_of, kept_one, within}
 ghost use Rattle.hsm_lmk.specs.Caches.{capacity_of, kept_in};
 ghost use Rattle.hsm_lmk.specs.Opened.{open_answer};
 ghost use Rattle.hsm_lmk.specs.Opening.{refuses_scheme};
+ghost use Rattle.hsm_lmk.specs.Pairs.{set_at};
 ghost use Rattle.hsm_lmk.specs.Sealing.{wrap};
 
 use crate::kept::{KeyCache, KeyEntry};
 use crate::prepared::PreparedKeys;
-use crate::{LmkSet, OpenFault, open};
+use crate::{LmkSet, OpenFault, open, set_at};
 use arrayvec::ArrayVec;
 use circular_buffer::HeapCircularBuffer;
 use hsm_tdes::{Key, Prepared, decipher, encipher};
@@ -54,13 +55,13 @@ impl KeyCache {
         self.hits
     }
 
-    // The key of the first entry that has this type, scheme and text.
-    fn find(&self, ty: KeyType, scheme: Scheme, text: &[u8]) -> Option<Key>
+    // The key of the first entry that has this set, type, scheme and text.
+    fn find(&self, set: u8, ty: KeyType, scheme: Scheme, text: &[u8]) -> Option<Key>
         requires { 8 ≤ length text.now }
-        ensures { result ≡ option_map (λ e. e.key) (entry_of ty scheme text.now (kept_in self.now).entries) }
+        ensures { result ≡ option_map (λ e. e.key) (entry_of set ty scheme text.now (kept_in self.now).entries) }
     {
         match &self.ring {
-            Some(ring) => key_in(ring, ty, scheme, text),
+            Some(ring) => key_in(ring, set, ty, scheme, text),
             None => None,
         }
     }
@@ -131,20 +132,21 @@ fn push(ring: &mut HeapCircularBuffer<KeyEntry>, entry: KeyEntry)
     ring.push_back(entry);
 }
 
-// The key of the first entry that has this type, scheme and text.
+// The key of the first entry that has this set, type, scheme and text.
 fn key_in(
     ring: &HeapCircularBuffer<KeyEntry>,
+    set: u8,
     ty: KeyType,
     scheme: Scheme,
     text: &[u8],
 ) -> Option<Key>
     requires { 8 ≤ length text.now }
-    ensures { result ≡ option_map (λ e. e.key) (entry_of ty scheme text.now ring.now.items) }
+    ensures { result ≡ option_map (λ e. e.key) (entry_of set ty scheme text.now ring.now.items) }
 {
     let (older, newer) = ring.as_slices();
-    match key_among(older, ty, scheme, text) {
+    match key_among(older, set, ty, scheme, text) {
         Some(key) => Some(key),
-        None => key_among(newer, ty, scheme, text),
+        None => key_among(newer, set, ty, scheme, text),
     }
 }
 
@@ -166,53 +168,59 @@ fn is_text(kept: &[u8], text: &[u8]) -> bool
     kept.len() == text.len() && head(kept) == head(text) && kept == text
 }
 
-// Whether the entry has this type, scheme and text.
-fn is_of(entry: &KeyEntry, ty: KeyType, scheme: Scheme, text: &[u8]) -> bool
+// Whether the entry has this set, type, scheme and text.
+fn is_of(entry: &KeyEntry, set: u8, ty: KeyType, scheme: Scheme, text: &[u8]) -> bool
     requires { 8 ≤ length text.now }
-    ensures { result ≡ is_of ty scheme text.now entry.now }
+    ensures { result ≡ is_of set ty scheme text.now entry.now }
 {
-    entry.ty.is(ty) && entry.scheme.is(scheme) && is_text(entry.text.as_slice(), text)
+    entry.set == set
+        && entry.ty.is(ty)
+        && entry.scheme.is(scheme)
+        && is_text(entry.text.as_slice(), text)
 }
 
-// The key of the first of these entries that has this type, scheme and text.
-fn key_among(entries: &[KeyEntry], ty: KeyType, scheme: Scheme, text: &[u8]) -> Option<Key>
+// The key of the first of these entries that has this set, type, scheme and text.
+fn key_among(entries: &[KeyEntry], set: u8, ty: KeyType, scheme: Scheme, text: &[u8]) -> Option<Key>
     requires { 8 ≤ length text.now }
-    ensures { result ≡ option_map (λ e. e.key) (entry_of ty scheme text.now entries.now) }
+    ensures { result ≡ option_map (λ e. e.key) (entry_of set ty scheme text.now entries.now) }
 {
     for entry in entries {
-        if is_of(entry, ty, scheme, text) {
+        if is_of(entry, set, ty, scheme, text) {
             return Some(entry.key);
         }
     }
     None
 }
 
-/// What `open` answers. A key that is kept by its type, scheme and text is not opened anew; another one is kept, and
-/// where there are then too many the oldest goes.
+/// What `open` answers under set n of these. A key that is kept by its set, type, scheme and text is not opened anew;
+/// another one is kept, and where there are then too many the oldest goes.
 pub fn open_cached(
     cache: &mut KeyCache,
-    set: &LmkSet,
+    sets: &[LmkSet],
+    n: u8,
     ty: KeyType,
     scheme: Scheme,
     text: &[u8],
 ) -> Result<Key, OpenFault>
+    requires loaded { n < length sets.now }
     requires size { length text.now ≡ 8 * scheme_parts scheme }
-    requires agrees { Agrees set.now (kept_in cache.old).entries }
-    ensures value { result ≡ open_answer (refuses_scheme ty scheme) (allows_length ty (scheme_parts scheme)) (wrap set.now ty) scheme text.now }
-    ensures agrees { Agrees set.now (kept_in cache.new).entries }
+    requires agrees { Agrees sets.now (kept_in cache.old).entries }
+    ensures value { result ≡ open_answer (refuses_scheme ty scheme) (allows_length ty (scheme_parts scheme)) (wrap (set_at sets.now n) ty) scheme text.now }
+    ensures agrees { Agrees sets.now (kept_in cache.new).entries }
     ensures kept { IfOk result (λ key. kept_in cache.new
-        ≡ kept_one (capacity_of cache.old) (kept_in cache.old) (record { ty = ty; scheme = scheme; text = record { items = text.now }; key = key })) }
+        ≡ kept_one (capacity_of cache.old) (kept_in cache.old) (record { set = n; ty = ty; scheme = scheme; text = record { items = text.now }; key = key })) }
     ensures fault { IfErr result (λ _. cache.new ≡ cache.old) }
     ensures capacity { capacity_of cache.new ≡ capacity_of cache.old }
 {
-    if let Some(key) = cache.find(ty, scheme, text) {
+    if let Some(key) = cache.find(n, ty, scheme, text) {
         cache.count();
         return Ok(key);
     }
-    let key = open(set, ty, scheme, text)?;
+    let key = open(set_at(sets, n), ty, scheme, text)?;
     let mut kept = ArrayVec::new();
     let _ = kept.try_extend_from_slice(text);
     cache.append(KeyEntry {
+        set: n,
         ty,
         scheme,
         text: kept,

@@ -7,9 +7,12 @@ use circular_buffer::HeapCircularBuffer;
 use hsm_tdes::Key;
 use hsm_types::{KeyType, Scheme};
 
-/// A key that was opened, with the type, the scheme and the text that it was opened by, 8 bytes a part.
+/// A key that was opened, with the number of its LMK set, and the type, the scheme and the text that it was opened by,
+/// 8 bytes a part.
 #[derive(Drop)]
 pub struct KeyEntry {
+    /// The number of the set under which it was opened.
+    pub set: u8,
     /// The type.
     pub ty: KeyType,
     /// The scheme.

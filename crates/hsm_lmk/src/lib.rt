@@ -7,7 +7,7 @@ ghost use Rattle.hsm_types.specs.Schemes.{scheme_parts};
 ghost use Rattle.hsm_tdes.specs.Tdes.{enciphered, deciphered};
 ghost use Rattle.hsm_lmk.specs.Opened.{all_odd, open_answer, opened, sealed};
 ghost use Rattle.hsm_lmk.specs.Opening.{AllPairsOdd, IsFirstEven, refuses_scheme, is_untagged_pair, is_lmk_scheme};
-ghost use Rattle.hsm_lmk.specs.Pairs.{AllOdd, lmk_pair};
+ghost use Rattle.hsm_lmk.specs.Pairs.{AllOdd, lmk_pair, set_at};
 ghost use Rattle.hsm_lmk.specs.Sealing.{Sealed, under, varied, scheme_variants, type_variants, wrap, block_at, block_of, pair_key, lmk_check};
 
 mod cache;
@@ -94,6 +94,20 @@ impl LmkSet {
     }
 }
 
+// All bytes are 01.
+fn blank_set() -> LmkSet {
+    LmkSet {
+        pairs: [Key::two(&[1; 8], &[1; 8]); 20],
+    }
+}
+
+/// What an unused place of a list of sets holds. No message names such a place.
+impl Default for LmkSet {
+    fn default() -> LmkSet {
+        blank_set()
+    }
+}
+
 // The pair of 16 bytes as a key of two parts.
 fn pair_key(pair: &[u8; 16]) -> Key
     ensures { result ≡ pair_key pair.now }
@@ -115,6 +129,14 @@ fn all_odd(key: &Key) -> bool
         }
     }
     true
+}
+
+/// Set n of the sets that are loaded.
+pub fn set_at(sets: &[LmkSet], n: u8) -> &LmkSet
+    requires { n < length sets.now }
+    ensures { result.now ≡ set_at sets.now n }
+{
+    &sets[usize::from(n)]
 }
 
 // Pair k of the set.

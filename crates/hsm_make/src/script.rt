@@ -5,7 +5,7 @@ ghost use Rattle.hsm_make.specs.Numbers.{next_x};
 ghost use Rattle.hsm_make.specs.Messages.{made_text};
 
 use crate::messages::{Buffers, sealed_key};
-use crate::module::made_module;
+use crate::module::{made_module, test_set};
 use std::alloc::{AllocError, Global};
 
 // The number that follows x.
@@ -20,7 +20,7 @@ pub fn made_script(alloc: Global, count: u32, seed: u32) -> Result<Vec<u8>, Allo
     ensures { IfOk result (λ script. script.items ≡ made_text count seed) }
 {
     let settings = made_module();
-    let key = sealed_key(&settings.lmk);
+    let key = sealed_key(test_set(&settings));
     let mut buffers = Buffers::new();
     let mut script = Vec::new(alloc);
     let mut x = seed % 0x8000_0000;

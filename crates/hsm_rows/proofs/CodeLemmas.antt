@@ -45,10 +45,10 @@ in_order false false false false false false c = or_false c where
   or_false false = refl
 
 pub among_checks : (code : ℕ) (rules : RowRules) → is_among code (check_codes rules) ≡
-    (list_any (λ key. is_among code (key_codes key)) rules.keys
+    (code == 13 || (list_any (λ key. is_among code (key_codes key)) rules.keys
     || ((is_among code (where_any rules.acts 29) || (is_among code (where_any rules.acts 17) || is_among code (where_any rules.needs 17)))
     || ((is_among code (where_some rules.parts_differ 75) || is_among code (where_some rules.compared 1))
-    || list_any (λ check. is_among code (data_codes rules.pin check)) rules.checks)))
+    || list_any (λ check. is_among code (data_codes rules.pin check)) rules.checks))))
 among_checks code rules =
     let k = flat_map key_codes rules.keys in
     let a = where_any rules.acts 29 in
@@ -58,12 +58,12 @@ among_checks code rules =
     let d = flat_map (data_codes rules.pin) rules.checks in
     let c = where_some rules.compared 1 in
     rw (sym (among_flat key_codes code rules.keys), sym (among_flat (data_codes rules.pin) code rules.checks))
-    (among_both code k (a ++ (p ++ ((b ++ n) ++ (d ++ c))))
+    (ap (λ (t : Bool). code == 13 || t) (among_both code k (a ++ (p ++ ((b ++ n) ++ (d ++ c))))
     ∙ (ap (λ (t : Bool). is_among code k || t) (among_both code a (p ++ ((b ++ n) ++ (d ++ c)))
     ∙ ap (λ (t : Bool). is_among code a || t) (among_both code p ((b ++ n) ++ (d ++ c))
     ∙ ap (λ (t : Bool). is_among code p || t) (among_both code (b ++ n) (d ++ c)
     ∙ rw (among_both code b n, among_both code d c) refl)))
-    ∙ in_order (is_among code k) (is_among code a) (is_among code p) (is_among code b) (is_among code n) (is_among code d) (is_among code c)))
+    ∙ in_order (is_among code k) (is_among code a) (is_among code p) (is_among code b) (is_among code n) (is_among code d) (is_among code c))))
 
 pub among_named : (code : ℕ) (row : Row) (rules : RowRules) → rules ≡ rules_of (shape_of row) → names (shape_of row) code ≡
     (code == 0 || (code == 15 || (list_any (λ field. code == field.code.0) row.fields.now || is_among code (check_codes rules))))

@@ -42,15 +42,22 @@ text_step c s t rest ts h more (suc k) l =
     let n : whole_room c (take (suc k) (t ∷ ts)) ≡ room c t + whole_room c (take k ts) = sum_by-cons (room c) t (take k ts) in
     more k (omega arith) ∙ sym (slice_behind s t rest (room c t) (start_of c ts k) (start_of c (t ∷ ts) (suc k)) (length (text_at ts k)) (omega arith) (omega arith))
 
-pub in_place : (c : Bool) (fs : List Field) (e ts : List (List ℕ)) (text trailer : List ℕ) → Reads c fs e text ts trailer → InPlace c text (record { texts = ts; trailer = trailer })
-in_place c fs e ts text trailer (at_end h) = record { texts = λ k l. absurd (omega arith); trailer = refl }
-in_place c fs e ts text trailer (one_more {f} {fs = more} {texts} {space} {t} {rest} p r) =
-    let b = in_place c more (e ++ t ∷ []) texts rest trailer r in
+-- the places of the texts, and what follows the last one
+record AllInPlace (console : Bool) (message : List ℕ) (ts : List (List ℕ)) (ending : List ℕ) : Type 0 where
+  texts : (k : ℕ) → k < length ts → At console message ts k
+  rest : ending ≡ drop (whole_room console ts) message
+
+in_place : (c : Bool) (fs : List Field) (e ts : List (List ℕ)) (text ending : List ℕ) → Reads c fs e text ts ending → AllInPlace c text ts ending
+in_place c fs e ts text ending at_end = record { texts = λ k l. absurd (omega arith); rest = refl }
+in_place c fs e ts text ending (one_more {f} {fs = more} {texts} {space} {t} {rest} p r) =
+    let b = in_place c more (e ++ t ∷ []) texts rest ending r in
     let n = space_length f.form e c space t rest p in
     record {
       texts = text_step c space t rest texts n b.texts;
-      trailer = b.trailer ∙ sym (ap (λ (x : ℕ). drop x (space ++ (t ++ rest))) (sum_by-cons (room c) t texts) ∙ drop_behind space t rest (room c t) (whole_room c texts) (omega arith));
+      rest = b.rest ∙ sym (ap (λ (x : ℕ). drop x (space ++ (t ++ rest))) (sum_by-cons (room c) t texts) ∙ drop_behind space t rest (room c t) (whole_room c texts) (omega arith));
     }
 
 pub row_in_place : (row : RowShape) (text : List ℕ) (r : ReadText) → RowReads row text r → InPlace (is_console row) text r
-row_in_place row text r h = in_place (is_console row) row.fields [] r.texts text r.trailer h
+row_in_place row text r h =
+    let all = in_place (is_console row) row.fields [] r.texts text (h.following ++ r.trailer) h.fields in
+    record { texts = all.texts; trailer = (h.following, all.rest) }

@@ -10,7 +10,7 @@ use Rattle.hsm_rows.specs.declared.row.Form.{Form}
 use Rattle.hsm_rows.specs.declared.row.Code.{Code}
 use Rattle.hsm_rows.specs.declared.read.Spot.{Spot}
 use Rattle.hsm_rows.specs.Forms.{size}
-use Rattle.hsm_rows.specs.Reading.{read_on, spot_of, ReadText, is_trailer, Reads, at_end, one_more, Placed, in_host, in_console, left_out, Stands, spot, is_left_out, is_end, present}
+use Rattle.hsm_rows.specs.Reading.{read_on, spot_of, FieldTexts, is_ending, Reads, at_end, one_more, Placed, in_host, in_console, left_out, Stands, spot, is_left_out, is_end, present}
 use Rattle.hsm_rows.proofs.Within.{sizes_fit}
 use Rattle.hsm_rows.proofs.ReadSteps.{read_none, read_some}
 
@@ -25,10 +25,11 @@ pub record Found (c : Bool) (f : Form) (e : List (List ℕ)) (text : List ℕ) (
   pub is_rest : drop s.to text ≡ rest
 
 -- the texts that were read
-pub record Back (c : Bool) (fs : List Field) (e : List (List ℕ)) (text : List ℕ) (r : ReadText) : Type 0 where
+pub record Back (c : Bool) (fs : List Field) (e : List (List ℕ)) (text : List ℕ) (r : FieldTexts) : Type 0 where
   pub ts : List (List ℕ)
   pub texts_are : r.texts ≡ e ++ ts
-  pub reads : Reads c fs e text ts r.trailer
+  pub reads : Reads c fs e text ts r.ending
+  pub ends : is_ending c r.ending ≡ true
 
 stands_split : (f : Form) (e : List (List ℕ)) (text : List ℕ) (n : ℕ) → size f e text ≡ Some n → Stands f e (take n text ++ drop n text) (length (take n text))
 stands_split f e text n k = rw (take-append-drop n text, length-take-le n text (sizes_fit f e text n k)) k
@@ -42,7 +43,7 @@ drop_one_more n text = grind (arith, common_steps)
 some_same : {A : Type 0} (a b : A) → Some a ≡ Some b → a ≡ b
 some_same a b h = cc
 
-ok_same : (a b : ReadText) → ◌≡◌ {A = Result ReadText Code} (Ok a) (Ok b) → a ≡ b
+ok_same : (a b : FieldTexts) → ◌≡◌ {A = Result FieldTexts Code} (Ok a) (Ok b) → a ≡ b
 ok_same a b h = cc
 
 found_host : (f : Form) (e : List (List ℕ)) (text : List ℕ) (n : ℕ) → size f e text ≡ Some n → Found false f e text (record { from = 0; to = 0 + n })
@@ -110,11 +111,11 @@ unfolding spot_of
 found false f e text s h = host_by f e text s (size f e text) refl h
 found true f e text s h = left_out_by f e text s (is_left_out f text) refl h
 
-end_by : (c : Bool) (e : List (List ℕ)) (text : List ℕ) (r : ReadText) (b : Bool) → is_trailer c text ≡ b
-    → cond {A = Result ReadText Code} b (Ok (record { texts = e; trailer = text })) (Err (record { 0 = 15 })) ≡ Ok r → Back c [] e text r
+end_by : (c : Bool) (e : List (List ℕ)) (text : List ℕ) (r : FieldTexts) (b : Bool) → is_ending c text ≡ b
+    → cond {A = Result FieldTexts Code} b (Ok (record { texts = e; ending = text })) (Err (record { 0 = 15 })) ≡ Ok r → Back c [] e text r
 end_by c e text r true k h =
-    let P : ReadText → Type 0 = λ x. Back c [] e text x in
-    subst P (ok_same (record { texts = e; trailer = text }) r h) (record { ts = []; texts_are = sym (append-nil e); reads = at_end k })
+    let P : FieldTexts → Type 0 = λ x. Back c [] e text x in
+    subst P (ok_same (record { texts = e; ending = text }) r h) (record { ts = []; texts_are = sym (append-nil e); reads = at_end; ends = k })
 end_by c e text r false k h = let z : ⊥ = cc in absurd z
 
 -- what is read on past a text that was found
@@ -124,17 +125,17 @@ read_found c f fs e text s h F =
     read_some c f fs e text s h
     ∙ (ap (λ (x : List ℕ). read_on c fs (e ++ x ∷ []) (drop s.to text)) F.is_text ∙ ap (λ (x : List ℕ). read_on c fs (e ++ F.t ∷ []) x) F.is_rest)
 
-back_by : (c : Bool) (f : Field) (fs : List Field) (e : List (List ℕ)) (text : List ℕ) (r : ReadText) → read_on c (f ∷ fs) e text ≡ Ok r
+back_by : (c : Bool) (f : Field) (fs : List Field) (e : List (List ℕ)) (text : List ℕ) (r : FieldTexts) → read_on c (f ∷ fs) e text ≡ Ok r
     → ((e' : List (List ℕ)) (text' : List ℕ) → read_on c fs e' text' ≡ Ok r → Back c fs e' text' r)
     → (o : Option Spot) → spot_of c f.form e text ≡ o → Back c (f ∷ fs) e text r
 back_by c f fs e text r h more None k = let n = read_none c f fs e text k in let z : ⊥ = cc in absurd z
 back_by c f fs e text r h more (Some s) k =
     let F = found c f.form e text s k in
     let b = more (e ++ F.t ∷ []) F.rest (sym (read_found c f fs e text s k F) ∙ h) in
-    let R : List ℕ → Type 0 = λ x. Reads c (f ∷ fs) e x (F.t ∷ b.ts) r.trailer in
-    record { ts = F.t ∷ b.ts; texts_are = b.texts_are ∙ append_assoc e (F.t ∷ []) b.ts; reads = subst R F.whole (one_more F.placed b.reads) }
+    let R : List ℕ → Type 0 = λ x. Reads c (f ∷ fs) e x (F.t ∷ b.ts) r.ending in
+    record { ts = F.t ∷ b.ts; texts_are = b.texts_are ∙ append_assoc e (F.t ∷ []) b.ts; reads = subst R F.whole (one_more F.placed b.reads); ends = b.ends }
 
-pub read_back : (c : Bool) (fs : List Field) (e : List (List ℕ)) (text : List ℕ) (r : ReadText) → read_on c fs e text ≡ Ok r → Back c fs e text r
+pub read_back : (c : Bool) (fs : List Field) (e : List (List ℕ)) (text : List ℕ) (r : FieldTexts) → read_on c fs e text ≡ Ok r → Back c fs e text r
 unfolding read_on
-read_back c [] e text r h = end_by c e text r (is_trailer c text) refl h
+read_back c [] e text r h = end_by c e text r (is_ending c text) refl h
 read_back c (f ∷ fs) e text r h = back_by c f fs e text r h (λ e' text' h'. read_back c fs e' text' r h') (spot_of c f.form e text) refl

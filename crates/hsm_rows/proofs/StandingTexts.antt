@@ -13,9 +13,9 @@ use Rattle.hsm_rows.specs.Standing.{IsFormat, IsOneOf, IsTypeCode, IsWrapper, Is
 use Rattle.hsm_text.specs.Sizes.{hex_size, word_size, one_of_size, key_size}
 use Rattle.hsm_text.specs.declared.keys.KeyForm.TheVariants as key
 use Rattle.hsm_rows.proofs.Refusals.{row_reads}
-use Rattle.hsm_rows.proofs.TextForms.{run_text, one_of_text, length_text, account_text, filled_text, clear_text, validation_text, pair_text, count_text, take_text, data_text, when_text, one_of_is, starts_text}
+use Rattle.hsm_rows.proofs.TextForms.{run_text, one_of_text, length_text, account_text, filled_text, clear_text, validation_text, pair_text, count_text, take_text, data_text, set_text_is, when_text, one_of_is, starts_text}
 use Rattle.hsm_rows.proofs.KeyForms.{key_is, key_back, run_back}
-use Rattle.hsm_rows.proofs.TextsBack.{one_of_back, type_is, type_back, wrapper_is, wrapper_back, account_back, filled_back, clear_back, validation_back, take_back, data_back, length_back, when_back, token_is, token_back, word_spaceless, minutes_spaceless, activity_spaceless, star_spaceless, just_is}
+use Rattle.hsm_rows.proofs.TextsBack.{one_of_back, type_is, type_back, wrapper_is, wrapper_back, account_back, filled_back, clear_back, validation_back, take_back, data_back, set_back, length_back, when_back, token_is, token_back, word_spaceless, minutes_spaceless, activity_spaceless, star_spaceless, just_is}
 
 -- what a text of the form is, and what may follow it
 abbrev Form_text : Form → List (List ℕ) → List ℕ → List ℕ → Type 0
@@ -72,6 +72,7 @@ is_text form.Mode1WrapScheme e t rest h = (under (mode_is (codes "1") e) (one_of
 is_text form.Mode23Chain e t rest h = (under (mode_is (codes "23") e) (hex_size 16 (t ++ rest)) t (AreHexDigits 16 t) h (run_text is_ascii_hexdigit 16 t rest), tt)
 is_text (form.Component k) e t rest h = (run_text is_ascii_hexdigit (component_digits (text_at e k)) t rest h, tt)
 is_text (form.LastComponent k) e t rest h = (run_text is_ascii_hexdigit (component_digits (text_at e k)) t rest h, tt)
+is_text form.SetNumber e t rest h = (set_text_is t rest h, tt)
 is_text form.Act e t rest h = token_is is_activity t rest h
 is_text form.ActOrAll e t rest h = token_is is_activity_or_star t rest h
 is_text form.Minutes e t rest h = token_is is_minutes t rest h
@@ -126,6 +127,7 @@ text_stands form.Mode1WrapScheme e t rest h = when_back (mode_is (codes "1") e) 
 text_stands form.Mode23Chain e t rest h = when_back (mode_is (codes "23") e) (hex_size 16 (t ++ rest)) t (AreHexDigits 16 t) h.0 (λ m d. run_back is_ascii_hexdigit 16 t rest d.0 d.1)
 text_stands (form.Component k) e t rest h = run_back is_ascii_hexdigit (component_digits (text_at e k)) t rest h.0.0 h.0.1
 text_stands (form.LastComponent k) e t rest h = run_back is_ascii_hexdigit (component_digits (text_at e k)) t rest h.0.0 h.0.1
+text_stands form.SetNumber e t rest h = set_back t rest h.0
 text_stands form.Act e t rest h = token_back is_activity t rest (activity_spaceless t h.0) h.0 h.1
 text_stands form.ActOrAll e t rest h = token_back is_activity_or_star t rest (star_spaceless t h.0) h.0 h.1
 text_stands form.Minutes e t rest h = token_back is_minutes t rest (minutes_spaceless t h.0) h.0 h.1
@@ -159,21 +161,22 @@ text_there e t ts texts h = ap (λ (x : List (List ℕ)). text_at x (length e)) 
 
 module _ (side : Bool) (P : Form → List (List ℕ) → List ℕ → Type 0) (all : (f : Form) (e : List (List ℕ)) (s t rest : List ℕ) → Placed f e side s t rest → P f e t) where
   -- of each text on from those that were read
-  each_from : (fs : List Field) (e ts texts : List (List ℕ)) (text trailer : List ℕ) → Reads side fs e text ts trailer → texts ≡ e ++ ts
+  each_from : (fs : List Field) (e ts texts : List (List ℕ)) (text ending : List ℕ) → Reads side fs e text ts ending → texts ≡ e ++ ts
       → EachText P fs e (length e) texts
-  each_from fs e ts texts text trailer (at_end h) w = tt
-  each_from fs e ts texts text trailer (one_more {f} {fs = more} {texts = ts'} {space} {t} {rest} p r) w =
+  each_from fs e ts texts text ending at_end w = tt
+  each_from fs e ts texts text ending (one_more {f} {fs = more} {texts = ts'} {space} {t} {rest} p r) w =
       let there = text_there e t ts' texts w in
       let count : length (e ++ t ∷ []) ≡ length e + 1 = length-append e (t ∷ []) in
       let Q : List ℕ → Type 0 = λ x. P f.form e x in
       let R : List ℕ → Type 0 = λ x. EachText P more (e ++ x ∷ []) (length e + 1) texts in
       let S : ℕ → Type 0 = λ n. EachText P more (e ++ t ∷ []) n texts in
-      let further = each_from more (e ++ t ∷ []) ts' texts rest trailer r (w ∙ sym (append_assoc e (t ∷ []) ts')) in
+      let further = each_from more (e ++ t ∷ []) ts' texts rest ending r (w ∙ sym (append_assoc e (t ∷ []) ts')) in
       (subst Q (sym there) (all f.form e space t rest p), subst R (sym there) (subst S count further))
 
   pub each_text : (row : RowShape) (text : List ℕ) (r : ReadText) → is_console row ≡ side → reading row text ≡ Ok r → EachText P row.fields [] 0 r.texts
   each_text row text r of_side h =
-      each_from row.fields [] r.texts r.texts text r.trailer (subst (λ (c : Bool). Reads c row.fields [] text r.texts r.trailer) of_side (row_reads row text r h)) refl
+      let reads = row_reads row text r h in
+      each_from row.fields [] r.texts r.texts text (reads.following ++ r.trailer) (subst (λ (c : Bool). Reads c row.fields [] text r.texts (reads.following ++ r.trailer)) of_side reads.fields) refl
 
 pub texts_stand : (row : RowShape) (text : List ℕ) (r : ReadText) → is_console row ≡ false → reading row text ≡ Ok r → TextsStand row.fields r.texts
 texts_stand = each_text false StandsBefore (λ f e s t rest p. (rest, in_host_row f e s t rest p))

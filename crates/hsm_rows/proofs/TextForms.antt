@@ -14,7 +14,7 @@ use Rattle.hsm_nibbles.specs.Characters.{digit_value}
 use Rattle.hsm_text.specs.KeyTexts.{scheme_of}
 use Rattle.hsm_text.specs.Sizes.{only_if, run_size, take_size, one_of_size, tagged_size, key_size, hex_size}
 use Rattle.hsm_text.specs.declared.keys.KeyForm.TheVariants as key
-use Rattle.hsm_rows.specs.Forms.{when, account_size, filled_size, validation_size, data_size, hex_value, hex_or_n, is_n, is_f, lengths, two_digit_value}
+use Rattle.hsm_rows.specs.Forms.{when, account_size, filled_size, validation_size, data_size, hex_value, hex_or_n, is_n, is_f, is_set_text, set_size, lengths, two_digit_value}
 use Rattle.hsm_rows.specs.Standing.{AreDigits, IsOneOf, IsLength, IsAccount, IsFilled, IsValidation, IsCount, IsData}
 use Rattle.hsm_rows.proofs.Within.{and_left, and_right}
 
@@ -236,6 +236,13 @@ value_below (a ∷ b ∷ c ∷ d ∷ f ∷ more) e h = let z : ⊥ = omega arith
 -- a count
 pub count_text : (t rest : List ℕ) → hex_size 4 (t ++ rest) ≡ Some (length t) → IsCount t
 count_text t rest h = let d = run_text is_ascii_hexdigit 4 t rest h in record { digits = d; most = value_below t d.0 d.1 }
+
+-- `%` and two decimal digits
+pub set_text_is : (t rest : List ℕ) → set_size (t ++ rest) ≡ Some (length t) → is_set_text t ≡ true
+unfolding set_size
+set_text_is t rest h =
+    let s = only_some (is_set_text (take 3 (t ++ rest))) 3 (length t) h in
+    ap is_set_text (sym (front t rest 3 s.1)) ∙ s.0
 
 -- n bytes
 pub take_text : (n : ℕ) (t rest : List ℕ) → take_size n (t ++ rest) ≡ Some (length t) → length t ≡ n

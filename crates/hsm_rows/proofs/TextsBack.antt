@@ -13,9 +13,9 @@ use Rattle.hsm_types.specs.Table.{code_of}
 use Rattle.hsm_types.specs.declared.types.KeyType.{KeyType}
 use Rattle.hsm_types.specs.declared.types.KeyType.TheVariants as type
 use Rattle.hsm_text.specs.Sizes.{only_if, take_size, one_of_size, word_size, hex_size}
-use Rattle.hsm_rows.specs.Forms.{when, wrapper_size, account_size, filled_size, validation_size, token_size, data_size, hex_or_n, is_n, is_f, is_no_space, is_visible, is_word, is_minutes, is_activity, is_activity_or_star, decimal_from, types, lengths}
+use Rattle.hsm_rows.specs.Forms.{when, wrapper_size, account_size, filled_size, validation_size, token_size, data_size, hex_or_n, is_n, is_f, is_set_text, set_size, is_no_space, is_visible, is_word, is_minutes, is_activity, is_activity_or_star, decimal_from, types, lengths}
 use Rattle.hsm_rows.specs.Standing.{IsOneOf, IsTypeCode, IsWrapper, IsLength, IsAccount, IsFilled, IsValidation, IsData, IsWhere, EndsWord, HasNoSemicolon}
-use Rattle.hsm_rows.proofs.Within.{and_left, and_right}
+use Rattle.hsm_rows.proofs.Within.{and_left, and_right, set_long}
 use Rattle.hsm_rows.proofs.TextForms.{front, one_of_text, one_of_is, each_of}
 use Rattle.hsm_rows.proofs.KeyForms.{only_true, both, le_true, run_back}
 
@@ -144,6 +144,14 @@ validation_back t rest h =
     only_true _ 12 (both (nat_le 12 (length (t ++ rest))) _ (twelve_long t rest h.long)
     (both (list_all hex_or_n (take 12 (t ++ rest))) _ (ap (list_all hex_or_n) same ∙ h.characters) (ap (λ (x : List ℕ). count_by is_n x == 1) same ∙ eq_true (count_by is_n t) 1 h.one)))
     ∙ ap Some (sym h.long)
+
+-- ---- the number of a set
+
+pub set_back : (t rest : List ℕ) → is_set_text t ≡ true → set_size (t ++ rest) ≡ Some (length t)
+unfolding set_size
+set_back t rest h =
+    let n : length t ≡ 3 = set_long t h in
+    only_true _ 3 (ap is_set_text (front t rest 3 (sym n)) ∙ h) ∙ ap Some (sym n)
 
 -- ---- data
 

@@ -1,5 +1,5 @@
 -- No size is more than what is left.
-use Rattle.std.proofs.Common.{◌≡◌, ℕ, Bool, true, false, ◌&&◌, ◌+◌, ◌-◌, ◌≤◌, List, [], ◌∷◌, length, take, drop, Option, Some, None, refl, arith, subst, cond, length-drop}
+use Rattle.std.proofs.Common.{◌≡◌, ℕ, Bool, true, false, ◌&&◌, ◌+◌, ◌-◌, ◌<◌, ◌≤◌, List, [], ◌∷◌, length, take, drop, Option, Some, None, refl, arith, subst, cond, length-drop, length-take}
 use Rattle.std.specs.Prelude.{codes, nat_eq, nat_le}
 use Rattle.std.specs.List.{list_all, prefix_len, starts_with}
 use Rattle.std.specs.Option.{option_map, option_or}
@@ -12,7 +12,7 @@ use Rattle.hsm_text.specs.declared.keys.KeyForm.{KeyForm}
 use Rattle.hsm_text.specs.declared.keys.KeyForm.TheVariants as key
 use Rattle.hsm_rows.specs.declared.row.Form.{Form}
 use Rattle.hsm_rows.specs.declared.row.Form.TheVariants as form
-use Rattle.hsm_rows.specs.Forms.{size, when, wrapper_size, account_size, filled_size, validation_size, token_size, data_size, is_no_space, text_at, last_text, hex_value}
+use Rattle.hsm_rows.specs.Forms.{size, when, wrapper_size, account_size, filled_size, validation_size, token_size, data_size, is_set_text, set_size, is_no_space, text_at, last_text, hex_value}
 
 -- a size, where there is one, is at most m
 abbrev FitsIn : Option ℕ → ℕ → Type 0
@@ -125,6 +125,26 @@ token_fits : (test : List ℕ → Bool) (rest : List ℕ) → FitsIn (token_size
 unfolding token_size
 token_fits test rest = only_fits (test (take (prefix_len is_no_space rest) rest)) (prefix_len is_no_space rest) (length rest) (λ h. prefix_len-le-length is_no_space rest)
 
+pub set_long : (t : List ℕ) → is_set_text t ≡ true → length t ≡ 3
+unfolding is_set_text
+set_long [] h = let z : ⊥ = cc in absurd z
+set_long (a ∷ []) h = let z : ⊥ = cc in absurd z
+set_long (a ∷ b ∷ []) h = let z : ⊥ = cc in absurd z
+set_long (a ∷ b ∷ c ∷ []) h = refl
+set_long (a ∷ b ∷ c ∷ d ∷ more) h = let z : ⊥ = cc in absurd z
+
+-- fewer than three bytes name no set
+pub set_short : (t : List ℕ) → length t < 3 → is_set_text (take 3 t) ≡ false
+unfolding is_set_text
+set_short [] h = refl
+set_short (a ∷ []) h = refl
+set_short (a ∷ b ∷ []) h = refl
+set_short (a ∷ b ∷ c ∷ more) h = absurd (omega (arith, h))
+
+set_fits : (rest : List ℕ) → FitsIn (set_size rest) (length rest)
+unfolding set_size
+set_fits rest = only_fits (is_set_text (take 3 rest)) 3 (length rest) (λ h. omega (arith, set_long (take 3 rest) h, length-take 3 rest))
+
 data_fits : (b : Bool) (n : ℕ) (rest : List ℕ) → FitsIn (data_size b n rest) (length rest)
 data_fits true n rest = none_fits _ (hex_size n rest) (length rest) (λ h. run_fits is_ascii_hexdigit n rest)
 data_fits false n rest = take_fits n rest
@@ -171,6 +191,7 @@ size_fits form.Mode1WrapScheme e rest = when_fits _ _ _ (one_of_fits _ rest)
 size_fits form.Mode23Chain e rest = when_fits _ _ _ (run_fits is_ascii_hexdigit 16 rest)
 size_fits (form.Component k) e rest = run_fits is_ascii_hexdigit _ rest
 size_fits (form.LastComponent k) e rest = run_fits is_ascii_hexdigit _ rest
+size_fits form.SetNumber e rest = set_fits rest
 size_fits form.Act e rest = token_fits _ rest
 size_fits form.ActOrAll e rest = token_fits _ rest
 size_fits form.Minutes e rest = token_fits _ rest

@@ -48,14 +48,15 @@ abbrev pub where_any : {A : Type 0} → List A → ℕ → List ℕ
 where_any [] code = []
 where_any (a ∷ more) code = code ∷ []
 
--- of the checks behind the fields: the keys; 29 for a permit; 75 for equal parts; 17 for what must be granted; the data; 01 for a value that is compared
+-- of the checks behind the fields: 13 for the LMK set; the keys; 29 for a permit; 75 for equal parts; 17 for what must be granted; the data; 01 for a value that is compared
 abbrev pub check_codes : RowRules → List ℕ
 check_codes rules =
-    flat_map key_codes rules.keys
+    13
+    ∷ (flat_map key_codes rules.keys
     ++ (where_any rules.acts 29
     ++ (where_some rules.parts_differ 75
     ++ ((where_any rules.acts 17 ++ where_any rules.needs 17)
-    ++ (flat_map (data_codes rules.pin) rules.checks ++ where_some rules.compared 1))))
+    ++ (flat_map (data_codes rules.pin) rules.checks ++ where_some rules.compared 1)))))
 
 -- the codes that a row names, in any order: 00, 15, those of its fields and those of its checks
 abbrev pub named_codes : RowShape → List ℕ

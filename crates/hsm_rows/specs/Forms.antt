@@ -12,7 +12,7 @@ use Rattle.hsm_text.specs.Sizes.{only_if, digits_size, hex_size, take_size, word
 use Rattle.hsm_text.specs.declared.keys.KeyForm.{KeyForm}
 use Rattle.hsm_text.specs.declared.keys.KeyForm.TheVariants as key
 use Rattle.hsm_rows.specs.declared.row.Form.{Form}
-use Rattle.hsm_rows.specs.declared.row.Form.TheVariants.{Digits1, Digits3, Digits4, Digits12, Digits16, Hex16, Key, Pair, WrappedKey, KeyByFlag, KeyType, MacType, Type2, Flag, Scheme, WrapScheme, Format, Length, Wrapper, Account, ClearPin, Offset, Validation, ZeroToOne, ZeroToTwo, ZeroToThree, OneOrThree, Count, Data, DataByInput, Mode03Mac, TwoZeros, FfSemicolon, FfType, Mode1Wrapper, Mode1Key, Mode1WrapScheme, Mode23Chain, Component, LastComponent, Act, ActOrAll, Minutes, Word}
+use Rattle.hsm_rows.specs.declared.row.Form.TheVariants.{Digits1, Digits3, Digits4, Digits12, Digits16, Hex16, Key, Pair, WrappedKey, KeyByFlag, KeyType, MacType, Type2, Flag, Scheme, WrapScheme, Format, Length, Wrapper, Account, ClearPin, Offset, Validation, ZeroToOne, ZeroToTwo, ZeroToThree, OneOrThree, Count, Data, DataByInput, Mode03Mac, TwoZeros, FfSemicolon, FfType, Mode1Wrapper, Mode1Key, Mode1WrapScheme, Mode23Chain, Component, LastComponent, SetNumber, Act, ActOrAll, Minutes, Word}
 
 -- the bytes of a text
 abbrev pub shown : Bor (List ℕ) → List ℕ
@@ -83,6 +83,20 @@ hex_or_n c = is_ascii_hexdigit c || is_n c
 -- twelve characters: 11 hexadecimal digits and one N
 unfoldable pub validation_size : List ℕ → Option ℕ
 validation_size rest = only_if (nat_le 12 (length rest) && (list_all hex_or_n (take 12 rest) && count_by is_n (take 12 rest) == 1)) 12
+
+-- `%` and two decimal digits
+unfoldable pub is_set_text : List ℕ → Bool
+is_set_text (a ∷ b ∷ c ∷ []) = nat_eq 37 a && (is_ascii_digit b && is_ascii_digit c)
+is_set_text _ = false
+
+-- the text of a set at the front
+unfoldable pub set_size : List ℕ → Option ℕ
+set_size rest = only_if (is_set_text (take 3 rest)) 3
+
+-- the number that such a text names; where there is none the number is 0
+unfoldable pub set_number : List ℕ → ℕ
+set_number (a ∷ b ∷ c ∷ []) = if is_set_text (a ∷ b ∷ c ∷ []) then (b - 48) * 10 + (c - 48) else 0
+set_number _ = 0
 
 -- any character but a space
 abbrev pub is_no_space : ℕ → Bool
@@ -197,6 +211,7 @@ size Mode1WrapScheme e rest = when (mode_is (codes "1") e) (one_of_size wrap_sch
 size Mode23Chain e rest = when (mode_is (codes "23") e) (hex_size 16 rest)
 size (Component scheme) e rest = hex_size (component_digits (text_at e scheme)) rest
 size (LastComponent scheme) e rest = hex_size (component_digits (text_at e scheme)) rest
+size SetNumber e rest = set_size rest
 size Act e rest = token_size is_activity rest
 size ActOrAll e rest = token_size is_activity_or_star rest
 size Minutes e rest = token_size is_minutes rest

@@ -1,5 +1,5 @@
 -- Where the texts of a reading stand in the message.
-use Rattle.std.specs.Prelude.{◌≡◌, ℕ, ◌+◌, ◌<◌, Bool, ◌&&◌, not, if◌then◌else◌, List, length, take, drop, sum_by, slice_range}
+use Rattle.std.specs.Prelude.{◌≡◌, ℕ, ◌+◌, ◌<◌, Bool, ◌&&◌, not, if◌then◌else◌, List, ◌++◌, length, take, drop, sum_by, slice_range}
 use Rattle.hsm_rows.specs.Forms.{text_at}
 use Rattle.hsm_rows.specs.Reading.{ReadText, is_end}
 
@@ -19,7 +19,7 @@ whole_room console texts = sum_by (room console) texts
 abbrev pub start_of : Bool → List (List ℕ) → ℕ → ℕ
 start_of console texts k = whole_room console (take k texts) + spaces console (text_at texts k)
 
--- each text is the slice of the message at its place, and the trailer is what follows the last one
+-- each text is the slice of the message at its place, and the text of a set and the trailer are what follows the last one
 pub record InPlace (console : Bool) (message : List ℕ) (r : ReadText) : Type 0 where
   pub texts : (k : ℕ) → k < length r.texts → text_at r.texts k ≡ slice_range message (start_of console r.texts k) (start_of console r.texts k + length (text_at r.texts k))
-  pub trailer : r.trailer ≡ drop (whole_room console r.texts) message
+  pub trailer : (following : List ℕ) × (following ++ r.trailer ≡ drop (whole_room console r.texts) message)

@@ -10,9 +10,9 @@ use Rattle.hsm_text.specs.KeyTexts.{scheme_of}
 use Rattle.hsm_text.specs.declared.keys.KeyForm.{KeyForm}
 use Rattle.hsm_text.specs.declared.keys.KeyForm.TheVariants as key
 use Rattle.hsm_rows.specs.declared.row.Form.{Form}
-use Rattle.hsm_rows.specs.declared.row.Form.TheVariants.{Digits1, Digits3, Digits4, Digits12, Digits16, Hex16, Key, Pair, WrappedKey, KeyByFlag, KeyType, MacType, Type2, Flag, Scheme, WrapScheme, Format, Length, Wrapper, Account, ClearPin, Offset, Validation, ZeroToOne, ZeroToTwo, ZeroToThree, OneOrThree, Count, Data, DataByInput, Mode03Mac, TwoZeros, FfSemicolon, FfType, Mode1Wrapper, Mode1Key, Mode1WrapScheme, Mode23Chain, Component, LastComponent, Act, ActOrAll, Minutes, Word}
+use Rattle.hsm_rows.specs.declared.row.Form.TheVariants.{Digits1, Digits3, Digits4, Digits12, Digits16, Hex16, Key, Pair, WrappedKey, KeyByFlag, KeyType, MacType, Type2, Flag, Scheme, WrapScheme, Format, Length, Wrapper, Account, ClearPin, Offset, Validation, ZeroToOne, ZeroToTwo, ZeroToThree, OneOrThree, Count, Data, DataByInput, Mode03Mac, TwoZeros, FfSemicolon, FfType, Mode1Wrapper, Mode1Key, Mode1WrapScheme, Mode23Chain, Component, LastComponent, SetNumber, Act, ActOrAll, Minutes, Word}
 use Rattle.hsm_rows.specs.declared.row.Field.{Field}
-use Rattle.hsm_rows.specs.Forms.{text_at, last_text, mode_is, is_ff, hex_value, two_digit_value, is_f, hex_or_n, is_n, mac_digits, component_digits, key_by_flag, is_activity, is_activity_or_star, is_minutes, is_word}
+use Rattle.hsm_rows.specs.Forms.{text_at, last_text, mode_is, is_ff, hex_value, two_digit_value, is_f, hex_or_n, is_n, mac_digits, component_digits, key_by_flag, is_activity, is_activity_or_star, is_minutes, is_set_text, is_word}
 use Rattle.hsm_rows.specs.Reading.{Stands, is_left_out}
 
 -- the text stands before some rest, the texts of the earlier fields being given
@@ -164,6 +164,7 @@ IsText Mode1WrapScheme e t = IsInModes (codes "1") e t (IsOneOf (codes "Z" ∷ c
 IsText Mode23Chain e t = IsInModes (codes "23") e t (AreHexDigits 16 t)
 IsText (Component scheme) e t = AreHexDigits (component_digits (text_at e scheme)) t
 IsText (LastComponent scheme) e t = AreHexDigits (component_digits (text_at e scheme)) t
+IsText SetNumber e t = is_set_text t ≡ true
 IsText Act e t = is_activity t ≡ true
 IsText ActOrAll e t = is_activity_or_star t ≡ true
 IsText Minutes e t = is_minutes t ≡ true

@@ -272,7 +272,7 @@ row_LOG =
 abbrev pub row_GC : RowShape
 row_GC =
     make_row (codes "GC") [] set.Gc
-    (field form.KeyType 4 ∷ field form.Scheme 26 ∷ [])
+    (field form.KeyType 4 ∷ field form.Scheme 26 ∷ field form.SetNumber 15 ∷ [])
     (term (public.ShowKey secret.DrawnKey) ∷ term (public.Sealed secret.DrawnKey) ∷ term (public.CheckValue secret.DrawnKey) ∷ [])
 
 -- FK: form a key from components
@@ -280,7 +280,7 @@ abbrev pub row_FK : RowShape
 row_FK =
     let scheme : ℕ = 1 in
     make_row (codes "FK") [] set.Fk
-    (field form.KeyType 4 ∷ field form.Scheme 26 ∷ field (form.Component scheme) 15 ∷ field (form.Component scheme) 15 ∷ field (form.LastComponent scheme) 15 ∷ [])
+    (field form.KeyType 4 ∷ field form.Scheme 26 ∷ field (form.Component scheme) 15 ∷ field (form.Component scheme) 15 ∷ field (form.LastComponent scheme) 15 ∷ field form.SetNumber 15 ∷ [])
     (term (public.Sealed secret.Joined) ∷ term (public.CheckValue secret.Joined) ∷ [])
 
 -- the host rows

@@ -1,7 +1,7 @@
 -- Numbers and forms as texts.
 use Rattle.std.specs.Prelude.{ℕ, ◌+◌, ◌/◌, ◌%◌, nat_lt, if◌then◌else◌, List, [], ◌∷◌, codes}
 use Rattle.hsm_rows.specs.declared.row.Form.{Form}
-use Rattle.hsm_rows.specs.declared.row.Form.TheVariants.{Digits1, Digits3, Digits4, Digits12, Digits16, Hex16, Key, Pair, WrappedKey, KeyByFlag, KeyType, MacType, Type2, Flag, Scheme, WrapScheme, Format, Length, Wrapper, Account, ClearPin, Offset, Validation, ZeroToOne, ZeroToTwo, ZeroToThree, OneOrThree, Count, Data, DataByInput, Mode03Mac, TwoZeros, FfSemicolon, FfType, Mode1Wrapper, Mode1Key, Mode1WrapScheme, Mode23Chain, Component, LastComponent, Act, ActOrAll, Minutes, Word}
+use Rattle.hsm_rows.specs.declared.row.Form.TheVariants.{Digits1, Digits3, Digits4, Digits12, Digits16, Hex16, Key, Pair, WrappedKey, KeyByFlag, KeyType, MacType, Type2, Flag, Scheme, WrapScheme, Format, Length, Wrapper, Account, ClearPin, Offset, Validation, ZeroToOne, ZeroToTwo, ZeroToThree, OneOrThree, Count, Data, DataByInput, Mode03Mac, TwoZeros, FfSemicolon, FfType, Mode1Wrapper, Mode1Key, Mode1WrapScheme, Mode23Chain, Component, LastComponent, SetNumber, Act, ActOrAll, Minutes, Word}
 
 -- the two decimal digits of a number below 100
 abbrev pub two_digits : ℕ → List ℕ
@@ -53,6 +53,7 @@ form_text Mode1WrapScheme = codes "mode1:wscheme"
 form_text Mode23Chain = codes "mode23:16H"
 form_text (Component scheme) = codes "comp"
 form_text (LastComponent scheme) = codes "[comp]"
+form_text SetNumber = codes "[%nn]"
 form_text Act = codes "act"
 form_text ActOrAll = codes "act*"
 form_text Minutes = codes "min"

@@ -92,7 +92,7 @@ fn has_check(rules: &Rules, code: u8) -> bool
     let needs = is_of_needs(rules.acts, rules.needs, code);
     let values = is_of_value(rules.parts_differ, rules.compared, code);
     let data = has_data(rules.pin, rules.checks, code);
-    keys || needs || values || data
+    code == 13 || keys || needs || values || data
 }
 
 // Whether the row names the code.
@@ -105,7 +105,7 @@ fn is_named(row: &Row, code: u8) -> bool
     code == 0 || code == 15 || fields || checks
 }
 
-/// The error codes of a row, each once and in rising order. A host row has 00; 15; the codes of its fields; where it has
+/// The error codes of a row, each once and in rising order. A host row has 00; 13; 15; the codes of its fields; where it has
 /// keys, 26, 27 and their codes of even parity; 29 where it uses a permit; 75 where the parts of a key must differ; 17
 /// where it can need an activity; the codes of its data checks, those of a block being 20 and 24; and 01 where it compares a
 /// value. A console row has none. The row must be one of the table.

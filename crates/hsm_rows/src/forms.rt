@@ -75,6 +75,7 @@ macro_rules! scan_fields {
             }
             Form::Component(scheme) => sizes::hex($rest, texts::component_digits(text_at($texts, scheme))),
             Form::LastComponent(scheme) => sizes::hex($rest, texts::component_digits(text_at($texts, scheme))),
+            Form::SetNumber => texts::set_name($rest),
             Form::Act => texts::activity($rest),
             Form::ActOrAll => texts::activity_or_star($rest),
             Form::Minutes => texts::minutes($rest),

@@ -58,6 +58,7 @@ impl Form {
             Form::Mode23Chain => "mode23:16H",
             Form::Component(_) => "comp",
             Form::LastComponent(_) => "[comp]",
+            Form::SetNumber => "[%nn]",
             Form::Act => "act",
             Form::ActOrAll => "act*",
             Form::Minutes => "min",

@@ -99,8 +99,10 @@ pub enum Form {
     Mode23Chain,
     /// `comp`: 16 hexadecimal digits for each part of the scheme.
     Component(u8),
-    /// `[comp]`: as `Component`, and left out at the end of the text.
+    /// `[comp]`: as `Component`, and left out at the end of the text and before a space and `%`.
     LastComponent(u8),
+    /// `[%nn]`: `%` and the two digits of an LMK set, and left out at the end of the text.
+    SetNumber,
     /// `act`: an activity.
     Act,
     /// `act*`: an activity or `*`.

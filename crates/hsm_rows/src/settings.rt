@@ -6,8 +6,8 @@ use hsm_types::Permits;
 /// The settings of the security module.
 #[derive(Drop)]
 pub struct Module {
-    /// The LMK set that seals keys and PINs.
-    pub lmk: LmkSet,
+    /// The LMK sets that seal keys and PINs. Set n is loaded where n is below their number.
+    pub lmks: ArrayVec<LmkSet, 4>,
     /// What is permitted for keys of each type.
     pub permits: Permits,
     /// The codes of the host rows that it answers as if they were in no row.

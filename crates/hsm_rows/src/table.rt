@@ -115,10 +115,11 @@ pub static ROWS: [Row; 30] = [
         [],
         [Public::Notes]),
     row!(b"GC", b"", RuleSet::Gc,
-        [Form::KeyType => 4, Form::Scheme => 26],
+        [Form::KeyType => 4, Form::Scheme => 26, Form::SetNumber => 15],
         [Public::ShowKey(Secret::DrawnKey), Public::Sealed(Secret::DrawnKey), Public::CheckValue(Secret::DrawnKey)]),
     row!(b"FK", b"", RuleSet::Fk,
-        [Form::KeyType => 4, Form::Scheme => 26, Form::Component(fk::SCHEME) => 15, Form::Component(fk::SCHEME) => 15, Form::LastComponent(fk::SCHEME) => 15],
+        [Form::KeyType => 4, Form::Scheme => 26, Form::Component(fk::SCHEME) => 15, Form::Component(fk::SCHEME) => 15, Form::LastComponent(fk::SCHEME) => 15,
+            Form::SetNumber => 15],
         [Public::Sealed(Secret::Joined), Public::CheckValue(Secret::Joined)]),
 ];
 

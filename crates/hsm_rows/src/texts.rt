@@ -1,11 +1,11 @@
 //! The sizes of the texts that the forms are made of.
-ghost use Rattle.std.specs.Prelude.{◌≡◌, ◌≤◌, length, map, take, IfSome, count_by};
+ghost use Rattle.std.specs.Prelude.{◌≡◌, ◌≤◌, length, map, take, IfSome, IsTrue, count_by};
 ghost use Rattle.std.specs.List.{prefix_len, list_all};
 ghost use Rattle.std.specs.Str.{bytes_eq};
 ghost use Rattle.std.specs.Char.{is_ascii_digit};
 ghost use Rattle.hsm_nibbles.specs.Characters.{digit_value};
 ghost use Rattle.hsm_text.specs.Sizes.{one_of_size, key_size};
-ghost use Rattle.hsm_rows.specs.Forms.{shown, text_at, last_text, hex_value, decimal_from, two_digit_value, wrapper_size, account_size, is_f, filled_size, is_n, hex_or_n, validation_size, is_no_space, token_size, is_visible, is_word, is_minutes, is_activity, is_activity_or_star, types, pair_codes, lengths, component_digits, key_by_flag, data_size, mac_digits};
+ghost use Rattle.hsm_rows.specs.Forms.{shown, text_at, last_text, hex_value, decimal_from, two_digit_value, wrapper_size, account_size, is_f, filled_size, is_n, hex_or_n, validation_size, is_no_space, token_size, is_visible, is_word, is_minutes, is_activity, is_activity_or_star, is_set_text, set_size, set_number, types, pair_codes, lengths, component_digits, key_by_flag, data_size, mac_digits};
 
 use hsm_auth::{Activity, MAX_MINUTES};
 use hsm_text::{KeyForm, sizes};
@@ -134,6 +134,48 @@ pub(crate) fn account(rest: &[u8]) -> Option<usize>
         Some(k + 1)
     } else {
         None
+    }
+}
+
+// Whether the text is `%` and two decimal digits.
+#[tactic(auto, unfolding(crate::specs::Forms::is_set_text))]
+pub(crate) fn is_set_text(text: &[u8]) -> bool
+    ensures { result ≡ is_set_text text.now }
+{
+    match text {
+        [a, b, c] => *a == b'%' && b.is_ascii_digit() && c.is_ascii_digit(),
+        _ => false,
+    }
+}
+
+// Whether such a text stands at the front.
+#[tactic(auto, using(crate::proofs::Within::set_short))]
+pub(crate) fn begins_with_set(rest: &[u8]) -> bool
+    ensures stands { result ≡ is_set_text (take 3 rest.now) }
+    ensures within { IsTrue result → 3 ≤ length rest.now }
+{
+    rest.len() >= 3 && is_set_text(&rest[..3])
+}
+
+// `%` and two decimal digits.
+#[tactic(auto, unfolding(crate::specs::Forms::set_size))]
+pub(crate) fn set_name(rest: &[u8]) -> Option<usize>
+    ensures size { result ≡ set_size rest.now }
+    ensures within { IfSome result (λ size. size ≤ length rest.now) }
+{
+    if begins_with_set(rest) { Some(3) } else { None }
+}
+
+// The number that the text names: 0 where it is no `%` and two decimal digits.
+#[tactic(auto, unfolding(crate::specs::Forms::set_number, crate::specs::Forms::is_set_text))]
+pub(crate) fn set_number(text: &[u8]) -> u8
+    ensures { result ≡ set_number text.now }
+{
+    match text {
+        [a, b, c] if *a == b'%' && b.is_ascii_digit() && c.is_ascii_digit() => {
+            (*b - 48) * 10 + (*c - 48)
+        }
+        _ => 0,
     }
 }
 

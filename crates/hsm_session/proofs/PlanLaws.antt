@@ -15,11 +15,12 @@ use Rattle.hsm_rows.specs.declared.rules.KeyCheck.{KeyCheck}
 use Rattle.hsm_rows.specs.declared.rules.KeyCheck.TheVariants.{GivenKey, Target}
 use Rattle.hsm_rows.specs.declared.settings.Module.{Module}
 use Rattle.hsm_rows.specs.Reading.{ReadText, reading}
-use Rattle.hsm_rows.specs.Rules.{RowRules}
 use Rattle.hsm_rows.specs.Table.{RowShape, console_rows, host_rows, row_with, rules_of, shape_of}
 use Rattle.hsm_rows.proofs.RowLemmas.{all_by}
+use Rattle.hsm_answers.specs.Read.{ReadMessage, read_by, message_in}
 use Rattle.hsm_answers.specs.Asks.{empty_ask, ask_of}
 use Rattle.hsm_answers.specs.Answers.{answer}
+use Rattle.hsm_answers.specs.Checks.{is_loaded}
 use Rattle.hsm_answers.specs.Keys.{key_fault}
 use Rattle.hsm_answers.specs.Kept.{checks_entries, opened_by, opened_in, opened_of, read_entries}
 use Rattle.hsm_answers.specs.Messages.{header_of, command_of, text_after, enabled_row, unknown_answer, ask_by, answer_by, message_ask, message_answer, least_for}
@@ -87,18 +88,21 @@ either_empty : (failed : Bool) (keys : List KeyEntry) → keys ≡ [] → (if fa
 either_empty true keys empty = refl
 either_empty false keys empty = empty
 
-no_entries : (m : Module) (rules : RowRules) (r : ReadText) (checks : List KeyCheck) → list_all is_target checks ≡ true → checks_entries m rules r checks ≡ []
-no_entries m rules r [] all = refl
-no_entries m rules r (Target ty k second ∷ checks) all =
-    either_empty (is_some (key_fault m rules r (Target ty k second))) (checks_entries m rules r checks) (no_entries m rules r checks all)
-no_entries m rules r (GivenKey k under ty wraps rule parity ∷ checks) all = absurd (cc)
+where_loaded : (loaded : Bool) (keys : List KeyEntry) → keys ≡ [] → (if loaded then keys else []) ≡ []
+where_loaded true keys empty = empty
+where_loaded false keys empty = refl
+
+no_entries : (q : ReadMessage) (checks : List KeyCheck) → list_all is_target checks ≡ true → checks_entries q checks ≡ []
+no_entries q [] all = refl
+no_entries q (Target ty k second ∷ checks) all = either_empty (is_some (key_fault q (Target ty k second))) (checks_entries q checks) (no_entries q checks all)
+no_entries q (GivenKey k under ty wraps rule parity ∷ checks) all = absurd (cc)
 
 nothing_opened : (row : RowShape) → opens_none row ≡ true → OpensNothing row
 unfolding opened_by
 nothing_opened row none = λ m text. go m (reading row text) where
-  go : (m : Module) (read : Result ReadText Code) → read_entries m (rules_of row) read ≡ []
+  go : (m : Module) (read : Result ReadText Code) → read_entries (message_in m row read) ≡ []
   go m (Err code) = refl
-  go m (Ok r) = no_entries m (rules_of row) r (rules_of row).keys none
+  go m (Ok r) = where_loaded (is_loaded (read_by m row r)) (checks_entries (read_by m row r) (rules_of row).keys) (no_entries (read_by m row r) (rules_of row).keys none)
 
 consoles_open_none : list_all opens_none console_rows ≡ true
 unfolding console_rows

@@ -4,6 +4,7 @@ use Rattle.std.specs.Prelude.{codes, is_some, nat_le, if◌then◌else◌, drop,
 use Rattle.std.specs.Str.{bytes_eq}
 use Rattle.hsm_auth.specs.Activities.{activity_of}
 use Rattle.hsm_rows.specs.Forms.{decimal_from}
+use Rattle.hsm_answers.specs.Read.{ReadMessage, read_by, message_in, message_read}
 use Rattle.hsm_answers.specs.Keys.{field_text}
 use Rattle.std.proofs.Common.{append-nil}
 use Rattle.hsm_auth.specs.declared.activity.Activity.{Activity}
@@ -17,8 +18,7 @@ use Rattle.hsm_rows.specs.declared.row.Field.{Field}
 use Rattle.hsm_rows.specs.declared.settings.Module.{Module}
 use Rattle.hsm_rows.specs.Table.{RowShape, rules_of}
 use Rattle.hsm_rows.specs.Texts.{two_digits}
-use Rattle.hsm_rows.specs.Reading.{ReadText, is_console, read_on, reading, is_trailer, spot_of}
-use Rattle.hsm_rows.specs.Rules.{RowRules}
+use Rattle.hsm_rows.specs.Reading.{FieldTexts, ReadText, is_console, read_on, reading, whole_reading, is_ending, spot_of}
 use Rattle.hsm_rows.specs.declared.rules.AskKind.{AskKind}
 use Rattle.hsm_rows.specs.declared.rules.AskKind.TheVariants.{UseAsk, LookAsk, RecentAsk, CancelAllAsk, AuthoriseAsk, CancelAsk}
 use Rattle.hsm_answers.specs.Answers.{answer, host_answer, host_body}
@@ -37,12 +37,12 @@ use Rattle.law_codes.proofs.Rows.{enabled_coded}
 abbrev field_codes : List Field → List ℕ
 field_codes fields = map (λ (f : Field). f.code.0) fields
 
-same_code : (a b : Code) → ◌≡◌ {A = Result ReadText Code} (Err a) (Err b) → a ≡ b
+same_code : (a b : Code) → ◌≡◌ {A = Result FieldTexts Code} (Err a) (Err b) → a ≡ b
 same_code a b h = cc h
 
 -- a field of which no text stands, or what the fields behind it refuse
-at_field : {S : Type 0} (own code : Code) (later : List ℕ) (spot : Option S) (onward : S → Result ReadText Code)
-    → (elim spot as (λ s. Result ReadText Code) [ None ↦ Err own | Some s ↦ onward s ]) ≡ Err code
+at_field : {S : Type 0} (own code : Code) (later : List ℕ) (spot : Option S) (onward : S → Result FieldTexts Code)
+    → (elim spot as (λ s. Result FieldTexts Code) [ None ↦ Err own | Some s ↦ onward s ]) ≡ Err code
     → ((s : S) → onward s ≡ Err code → is_among code.0 (0 ∷ 15 ∷ own.0 ∷ later) ≡ true)
     → is_among code.0 (0 ∷ 15 ∷ own.0 ∷ later) ≡ true
 at_field own code later None onward h behind_it = subst (λ (c : Code). is_among c.0 (0 ∷ 15 ∷ own.0 ∷ later) ≡ true) (same_code own code h) (third own.0 later)
@@ -52,13 +52,18 @@ at_field own code later (Some s) onward h behind_it = behind_it s h
 refused_has : (console : Bool) (fields : List Field) (earlier : List (List ℕ)) (rest : List ℕ) (code : Code)
     → read_on console fields earlier rest ≡ Err code → is_among code.0 (0 ∷ 15 ∷ field_codes fields) ≡ true
 unfolding read_on
-refused_has console [] earlier rest code refused = at_end (is_trailer console rest) refused where
-  at_end : (b : Bool) → if◌then◌else◌ {A = Result ReadText Code} b (Ok (record { texts = earlier; trailer = rest })) (Err (record { 0 = 15 })) ≡ Err code → is_among code.0 (0 ∷ 15 ∷ []) ≡ true
+refused_has console [] earlier rest code refused = at_end (is_ending console rest) refused where
+  at_end : (b : Bool) → if◌then◌else◌ {A = Result FieldTexts Code} b (Ok (record { texts = earlier; ending = rest })) (Err (record { 0 = 15 })) ≡ Err code → is_among code.0 (0 ∷ 15 ∷ []) ≡ true
   at_end true h = absurd (cc h)
   at_end false h = subst (λ (c : Code). is_among c.0 (0 ∷ 15 ∷ []) ≡ true) (same_code (record { 0 = 15 }) code h) refl
 refused_has console (f ∷ fields) earlier rest code refused =
     at_field f.code code (field_codes fields) (spot_of console f.form earlier rest) (λ s. read_on console fields (earlier ++ slice_range rest s.from s.to ∷ []) (drop s.to rest)) refused
     (λ s onward. behind (Some code.0) 0 15 (f.code.0 ∷ []) (field_codes fields) (refused_has console fields (earlier ++ slice_range rest s.from s.to ∷ []) (drop s.to rest) code onward))
+
+-- a text that does not read is refused by its fields, or by what follows them
+unread : (row : RowShape) (read : Result FieldTexts Code) (code : Code) → whole_reading row read ≡ Err code → read ≡ Err code
+unread row (Err own) code h = let same : own ≡ code = cc h in ap Err same
+unread row (Ok read) code h = absurd (cc h)
 
 full_or_not : (t : Bool) → is_refused (if t then granted.Full else granted.Authorised) ≡ false
 full_or_not true = refl
@@ -77,53 +82,54 @@ cancel_open h moment false (Some a) = refl
 use_open : (h : List Entry) (moment : ℕ) (needs : List Activity) (words : ℕ) → needs ≡ [] → is_refused (outcome h moment (ask.Use (as_needs needs) words)) ≡ false
 use_open h moment needs words none = rw none refl
 
-no_needs_of : (m : Module) (rules : RowRules) (r : ReadText) → rules.acts ≡ [] → rules.needs ≡ [] → needs_of m rules r ≡ []
+no_needs_of : (q : ReadMessage) → q.rules.acts ≡ [] → q.rules.needs ≡ [] → needs_of q ≡ []
 unfolding needs_of
-no_needs_of m rules r acts needs = rw (acts, needs) refl
+no_needs_of q acts needs = rw (acts, needs) refl
 
-kind_open : (m : Module) (rules : RowRules) (r : ReadText) (kind : AskKind) (h : List Entry) (moment : ℕ) → rules.acts ≡ [] → rules.needs ≡ []
-    → is_refused (outcome h moment (row_ask m rules r kind)) ≡ false
+kind_open : (q : ReadMessage) (kind : AskKind) (h : List Entry) (moment : ℕ) → q.rules.acts ≡ [] → q.rules.needs ≡ []
+    → is_refused (outcome h moment (row_ask q kind)) ≡ false
 unfolding row_ask
-kind_open m rules r UseAsk h moment acts needs = use_open h moment (needs_of m rules r) (asked_words m rules r) (no_needs_of m rules r acts needs)
-kind_open m rules r LookAsk h moment acts needs = refl
-kind_open m rules r RecentAsk h moment acts needs = refl
-kind_open m rules r CancelAllAsk h moment acts needs = refl
-kind_open m rules r AuthoriseAsk h moment acts needs = authorise_open h moment (words_hold m r) (activity_of (field_text r 0)) (decimal_from 0 (field_text r 1))
-kind_open m rules r CancelAsk h moment acts needs = cancel_open h moment (bytes_eq (field_text r 0) (codes "*")) (activity_of (field_text r 0))
+kind_open q UseAsk h moment acts needs = use_open h moment (needs_of q) (asked_words q) (no_needs_of q acts needs)
+kind_open q LookAsk h moment acts needs = refl
+kind_open q RecentAsk h moment acts needs = refl
+kind_open q CancelAllAsk h moment acts needs = refl
+kind_open q AuthoriseAsk h moment acts needs = authorise_open h moment (words_hold q) (activity_of (field_text q.read 0)) (decimal_from 0 (field_text q.read 1))
+kind_open q CancelAsk h moment acts needs = cancel_open h moment (bytes_eq (field_text q.read 0) (codes "*")) (activity_of (field_text q.read 0))
 
 -- where no early check fails, a row that needs nothing is not refused at an entry that fits
-may_refuse : (m : Module) (rules : RowRules) (r : ReadText) (g : Granted) (before : Option ℕ) → before ≡ None
-    → Fits (if is_some before then empty_ask else row_ask m rules r rules.ask) g → MayRefuse rules g
-may_refuse m rules r g None none fits = λ acts needs. subst (λ (x : Granted). is_refused x ≡ false) (sym fits.2) (kind_open m rules r rules.ask fits.0 fits.1 acts needs)
-may_refuse m rules r g (Some code) none fits = absurd (cc none)
+may_refuse : (q : ReadMessage) (g : Granted) (before : Option ℕ) → before ≡ None
+    → Fits (if is_some before then empty_ask else row_ask q q.rules.ask) g → MayRefuse q.rules g
+may_refuse q g None none fits = λ acts needs. subst (λ (x : Granted). is_refused x ≡ false) (sym fits.2) (kind_open q q.rules.ask fits.0 fits.1 acts needs)
+may_refuse q g (Some code) none fits = absurd (cc none)
 
 -- the answer to a text of the row bears one of the codes that the row names
-record BearsNamed (m : Module) (row : RowShape) (g : Granted) (read : Result ReadText Code) : Type 0 where
+record BearsNamed (row : RowShape) (g : Granted) (read : Result ReadMessage Code) : Type 0 where
   code : ℕ
   named : is_among code (named_codes row) ≡ true
   rest : List ℕ
-  is : host_answer m row g read ≡ row.reply ++ (two_digits code ++ rest)
+  is : host_answer row g read ≡ row.reply ++ (two_digits code ++ rest)
 
-checked_bears : (m : Module) (row : RowShape) (g : Granted) (r : ReadText) (fault : Option ℕ) → opt_among fault (0 ∷ 15 ∷ check_codes (rules_of row)) ≡ true
-    → (code : ℕ) × (is_among code (named_codes row) ≡ true) × (rest : List ℕ) × (host_body m row r g fault ≡ two_digits code ++ rest)
-checked_bears m row g r None among = (0, refl, flat_map (λ field. field) (values m (rules_of row) r g row.terms) ++ r.trailer, refl)
-checked_bears m row g r (Some code) among = (code, behind (Some code) 0 15 (field_codes row.fields) (check_codes (rules_of row)) among, r.trailer, refl)
+checked_bears : (row : RowShape) (g : Granted) (q : ReadMessage) (fault : Option ℕ) → opt_among fault (0 ∷ 15 ∷ check_codes (rules_of row)) ≡ true
+    → (code : ℕ) × (is_among code (named_codes row) ≡ true) × (rest : List ℕ) × (host_body row q g fault ≡ two_digits code ++ rest)
+checked_bears row g q None among = (0, refl, flat_map (λ field. field) (values q g row.terms) ++ q.read.trailer, refl)
+checked_bears row g q (Some code) among = (code, behind (Some code) 0 15 (field_codes row.fields) (check_codes (rules_of row)) among, q.read.trailer, refl)
 
 read_bears : (m : Module) (row : RowShape) (g : Granted) (text : List ℕ) (read : Result ReadText Code) → is_console row ≡ false → reading row text ≡ read
-    → Fits (ask_read m (rules_of row) read) g → BearsNamed m row g read
+    → Fits (ask_read (message_in m row read)) g → BearsNamed row g (message_in m row read)
 unfolding ask_read
 read_bears m row g text (Err code) side reads fits = record {
   code = code.0;
-  named = left (Some code.0) (0 ∷ 15 ∷ field_codes row.fields) (check_codes (rules_of row)) (refused_has (is_console row) row.fields [] text code reads);
+  named = left (Some code.0) (0 ∷ 15 ∷ field_codes row.fields) (check_codes (rules_of row)) (refused_has (is_console row) row.fields [] text code (unread row (read_on (is_console row) row.fields [] text) code reads));
   rest = [];
   is = ap (λ (digits : List ℕ). row.reply ++ digits) (sym (append-nil (two_digits code.0)));
 }
 read_bears m row g text (Ok r) side reads fits =
-    let may : early_fault m (rules_of row) r ≡ None → MayRefuse (rules_of row) g = λ none. may_refuse m (rules_of row) r g (early_fault m (rules_of row) r) none fits in
-    let bears = checked_bears m row g r (check_read m (rules_of row) r g) (read_has m (rules_of row) r g may) in
+    let q = read_by m row r in
+    let may : early_fault q ≡ None → MayRefuse q.rules g = λ none. may_refuse q g (early_fault q) none fits in
+    let bears = checked_bears row g q (check_read q g) (read_has q g may) in
     record { code = bears.0; named = bears.1; rest = bears.2; is = ap (λ (body : List ℕ). row.reply ++ body) bears.3 }
 
-answer_is : (m : Module) (row : RowShape) (text : List ℕ) (g : Granted) → is_console row ≡ false → answer m row text g ≡ host_answer m row g (reading row text)
+answer_is : (m : Module) (row : RowShape) (text : List ℕ) (g : Granted) → is_console row ≡ false → answer m row text g ≡ host_answer row g (message_read m row text)
 unfolding answer
 answer_is m row text g side = rw side refl
 
@@ -133,7 +139,7 @@ unfolding message_answer message_ask ask_of
 bears m message g row found fits =
     let row_coded = enabled_coded m (command_of m Host message) row found in
     let text = text_after m Host message in
-    let fits_row : Fits (ask_read m (rules_of row) (reading row text)) g = subst (λ (o : Option RowShape). Fits (ask_by m Host message o) g) found fits in
+    let fits_row : Fits (ask_read (message_read m row text)) g = subst (λ (o : Option RowShape). Fits (ask_by m Host message o) g) found fits in
     let read = read_bears m row g text (reading row text) row_coded.host refl fits_row in
     record {
       code = read.code;

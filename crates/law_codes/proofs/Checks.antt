@@ -8,7 +8,6 @@ use Rattle.hsm_nibbles.specs.Characters.{digit_value}
 use Rattle.hsm_pinblock.specs.Faults.{blockfault}
 use Rattle.hsm_pinblock.specs.declared.BlockFault.{BlockFault}
 use Rattle.hsm_pinblock.specs.declared.BlockFault.TheVariants.{Control, Length, Body}
-use Rattle.hsm_rows.specs.declared.settings.Module.{Module}
 use Rattle.hsm_rows.specs.declared.row.Secret.{Secret}
 use Rattle.hsm_rows.specs.Reading.{ReadText, is_end}
 use Rattle.hsm_rows.specs.Rules.{RowRules}
@@ -27,13 +26,14 @@ use Rattle.hsm_types.specs.Table.{allows_length}
 use Rattle.hsm_types.specs.Schemes.{scheme_parts}
 use Rattle.hsm_lmk.specs.Opened.{all_odd, opened}
 use Rattle.hsm_pinblock.specs.declared.Format.TheVariants.{F01}
+use Rattle.hsm_answers.specs.Read.{ReadMessage}
 use Rattle.hsm_answers.specs.Keys.{KeyData, asked_key, field_text, first_code, given_fault, is_absent, key_data_fault, key_fault, key_of, keys_fault, length_fault, lengths_differ, scheme_at, scheme_fault, type_of, wrapping_key}
 use Rattle.hsm_answers.specs.declared.keys.Asked.{Asked}
 use Rattle.hsm_answers.specs.Pins.{block_fault_code, clear_digits, digits_at, format_at, given_pin, lmk_block, number_at, pin_fault, sent_block}
 use Rattle.hsm_answers.specs.Macs.{ends_message, is_only, mac_data, mac_fault, mac_padding}
 use Rattle.hsm_mac.specs.Macs.{fills_blocks, is_bare, is_length}
 use Rattle.hsm_answers.specs.Values.{row_value, secret_key}
-use Rattle.hsm_answers.specs.Checks.{late_fault, early_fault, check_read, checks_fault, compared_fault, data_fault, entry_fault, is_refused, is_used, is_forbidden, act_permit, parts_fault, permit_fault}
+use Rattle.hsm_answers.specs.Checks.{late_fault, early_fault, check_read, checks_fault, compared_fault, data_fault, entry_fault, is_refused, is_used, is_forbidden, act_permit, is_loaded, parts_fault, permit_fault, set_fault}
 use Rattle.hsm_tdes.specs.Tdes.{repeats_part}
 use Rattle.hsm_rows.specs.Codes.{check_codes, data_codes, is_among, key_codes, pin_codes, where_any, where_some}
 use Rattle.law_codes.proofs.Among.{behind, first, itself, left, opt_among, where_fails, where_holds}
@@ -71,26 +71,26 @@ target_codes true y = refl
 target_codes false true = refl
 target_codes false false = refl
 
-key_has : (m : Module) (rules : RowRules) (r : ReadText) (k : KeyCheck) → opt_among (key_fault m rules r k) (0 ∷ 15 ∷ key_codes k) ≡ true
+key_has : (q : ReadMessage) (k : KeyCheck) → opt_among (key_fault q k) (0 ∷ 15 ∷ key_codes k) ≡ true
 unfolding key_fault
-key_has m rules r (GivenKey k under ty wraps rule parity) = given_codes (wrapping_key m rules r under (type_of r ty)) under (asked_key r ty wraps rule parity) (field_text r k)
-key_has m rules r (Target ty k second) = target_codes (lengths_differ r k second) (not (allows_length (type_of r ty) (scheme_parts (scheme_at r k))))
+key_has q (GivenKey k under ty wraps rule parity) = given_codes (wrapping_key q under (type_of q.read ty)) under (asked_key q.read ty wraps rule parity) (field_text q.read k)
+key_has q (Target ty k second) = target_codes (lengths_differ q.read k second) (not (allows_length (type_of q.read ty) (scheme_parts (scheme_at q.read k))))
 
-keys_have : (m : Module) (rules : RowRules) (r : ReadText) (keys : List KeyCheck) → opt_among (first_code (map (key_fault m rules r) keys)) (0 ∷ 15 ∷ flat_map key_codes keys) ≡ true
-keys_have m rules r [] = refl
-keys_have m rules r (k ∷ keys) =
-    first (key_fault m rules r k) (map (key_fault m rules r) keys) (0 ∷ 15 ∷ (key_codes k ++ flat_map key_codes keys))
-    (left (key_fault m rules r k) (0 ∷ 15 ∷ key_codes k) (flat_map key_codes keys) (key_has m rules r k))
-    (behind (first_code (map (key_fault m rules r) keys)) 0 15 (key_codes k) (flat_map key_codes keys) (keys_have m rules r keys))
+keys_have : (q : ReadMessage) (keys : List KeyCheck) → opt_among (first_code (map (key_fault q) keys)) (0 ∷ 15 ∷ flat_map key_codes keys) ≡ true
+keys_have q [] = refl
+keys_have q (k ∷ keys) =
+    first (key_fault q k) (map (key_fault q) keys) (0 ∷ 15 ∷ (key_codes k ++ flat_map key_codes keys))
+    (left (key_fault q k) (0 ∷ 15 ∷ key_codes k) (flat_map key_codes keys) (key_has q k))
+    (behind (first_code (map (key_fault q) keys)) 0 15 (key_codes k) (flat_map key_codes keys) (keys_have q keys))
 
 permit_has : (p : ActUse → Bool) (acts : List ActUse) → opt_among (if list_any p acts then Some 29 else None) (0 ∷ 15 ∷ where_any acts 29) ≡ true
 permit_has p [] = refl
 permit_has p (a ∷ acts) = where_holds (list_any p (a ∷ acts)) 29
 
-parts_have : (m : Module) (rules : RowRules) (r : ReadText) (s : Option Secret) → opt_among (parts_fault m rules r s) (0 ∷ 15 ∷ where_some s 75) ≡ true
+parts_have : (q : ReadMessage) (s : Option Secret) → opt_among (parts_fault q s) (0 ∷ 15 ∷ where_some s 75) ≡ true
 unfolding parts_fault
-parts_have m rules r None = refl
-parts_have m rules r (Some s) = where_holds (repeats_part (secret_key m rules r 0 s)) 75
+parts_have q None = refl
+parts_have q (Some s) = where_holds (repeats_part (secret_key q 0 s)) 75
 
 block_has : (fault : Option BlockFault) → opt_among (block_fault_code fault) (0 ∷ 15 ∷ 20 ∷ 24 ∷ []) ≡ true
 block_has None = refl
@@ -98,13 +98,13 @@ block_has (Some Control) = refl
 block_has (Some Length) = refl
 block_has (Some Body) = refl
 
-pin_has : (m : Module) (rules : RowRules) (r : ReadText) (pin : PinSource) → opt_among (pin_fault m rules r pin) (0 ∷ 15 ∷ pin_codes pin) ≡ true
+pin_has : (q : ReadMessage) (pin : PinSource) → opt_among (pin_fault q pin) (0 ∷ 15 ∷ pin_codes pin) ≡ true
 unfolding pin_fault
-pin_has m rules r NoPin = refl
-pin_has m rules r (BlockPin block key format account) = block_has (blockfault (format_at r format) (sent_block m rules r block key) (digits_at r account))
-pin_has m rules r (LmkPin text account) = where_holds (is_some (blockfault F01 (lmk_block m r text) (digits_at r account))) 14
-pin_has m rules r (ClearPin text account) = where_holds (nat_lt (length (clear_digits r text)) 4) 24
-pin_has m rules r (DrawnPin len account) = refl
+pin_has q NoPin = refl
+pin_has q (BlockPin block key format account) = block_has (blockfault (format_at q.read format) (sent_block q block key) (digits_at q.read account))
+pin_has q (LmkPin text account) = where_holds (is_some (blockfault F01 (lmk_block q text) (digits_at q.read account))) 14
+pin_has q (ClearPin text account) = where_holds (nat_lt (length (clear_digits q.read text)) 4) 24
+pin_has q (DrawnPin len account) = refl
 
 mac_has : (r : ReadText) (f : MacFields) → opt_among (mac_fault r f) (0 ∷ 15 ∷ 80 ∷ []) ≡ true
 unfolding mac_fault
@@ -117,25 +117,25 @@ mac_has r f =
     three false false true = refl
     three false false false = refl
 
-check_has : (m : Module) (rules : RowRules) (r : ReadText) (check : DataCheck) → opt_among (data_fault m rules r check) (0 ∷ 15 ∷ data_codes rules.pin check) ≡ true
+check_has : (q : ReadMessage) (check : DataCheck) → opt_among (data_fault q check) (0 ∷ 15 ∷ data_codes q.rules.pin check) ≡ true
 unfolding data_fault
-check_has m rules r (TableCheck k) = where_fails (table_ok (digits_at r k)) 25
-check_has m rules r PinCheck = pin_has m rules r rules.pin
-check_has m rules r (LongerThan k) = where_holds (nat_lt (number_at r k) (length (given_pin m rules r))) 24
-check_has m rules r (ShorterThan k) = where_holds (nat_lt (length (given_pin m rules r)) (number_at r k)) 24
-check_has m rules r (MacCheck f) = mac_has r f
+check_has q (TableCheck k) = where_fails (table_ok (digits_at q.read k)) 25
+check_has q PinCheck = pin_has q q.rules.pin
+check_has q (LongerThan k) = where_holds (nat_lt (number_at q.read k) (length (given_pin q))) 24
+check_has q (ShorterThan k) = where_holds (nat_lt (length (given_pin q)) (number_at q.read k)) 24
+check_has q (MacCheck f) = mac_has q.read f
 
-checks_have : (m : Module) (rules : RowRules) (r : ReadText) (checks : List DataCheck) → opt_among (first_code (map (data_fault m rules r) checks)) (0 ∷ 15 ∷ flat_map (data_codes rules.pin) checks) ≡ true
-checks_have m rules r [] = refl
-checks_have m rules r (k ∷ checks) =
-    first (data_fault m rules r k) (map (data_fault m rules r) checks) (0 ∷ 15 ∷ (data_codes rules.pin k ++ flat_map (data_codes rules.pin) checks))
-    (left (data_fault m rules r k) (0 ∷ 15 ∷ data_codes rules.pin k) (flat_map (data_codes rules.pin) checks) (check_has m rules r k))
-    (behind (first_code (map (data_fault m rules r) checks)) 0 15 (data_codes rules.pin k) (flat_map (data_codes rules.pin) checks) (checks_have m rules r checks))
+checks_have : (q : ReadMessage) (checks : List DataCheck) → opt_among (first_code (map (data_fault q) checks)) (0 ∷ 15 ∷ flat_map (data_codes q.rules.pin) checks) ≡ true
+checks_have q [] = refl
+checks_have q (k ∷ checks) =
+    first (data_fault q k) (map (data_fault q) checks) (0 ∷ 15 ∷ (data_codes q.rules.pin k ++ flat_map (data_codes q.rules.pin) checks))
+    (left (data_fault q k) (0 ∷ 15 ∷ data_codes q.rules.pin k) (flat_map (data_codes q.rules.pin) checks) (check_has q k))
+    (behind (first_code (map (data_fault q) checks)) 0 15 (data_codes q.rules.pin k) (flat_map (data_codes q.rules.pin) checks) (checks_have q checks))
 
-compared_has : (m : Module) (rules : RowRules) (r : ReadText) (k : Option ℕ) → opt_among (compared_fault m rules r k) (0 ∷ 15 ∷ where_some k 1) ≡ true
+compared_has : (q : ReadMessage) (k : Option ℕ) → opt_among (compared_fault q k) (0 ∷ 15 ∷ where_some k 1) ≡ true
 unfolding compared_fault
-compared_has m rules r None = refl
-compared_has m rules r (Some k) = where_fails (is_absent r k || bytes_eq (map digit_value (field_text r k)) (map digit_value (row_value m rules r rules.value))) 1
+compared_has q None = refl
+compared_has q (Some k) = where_fails (is_absent q.read k || bytes_eq (map digit_value (field_text q.read k)) (map digit_value (row_value q q.rules.value))) 1
 
 -- a row that needs nothing is not refused at the entry
 abbrev pub MayRefuse : RowRules → Granted → Type 0
@@ -163,50 +163,52 @@ in_needs o k a p n d h = behind o 0 15 k (a ++ (p ++ (n ++ d))) (behind o 0 15 a
 in_data : (o : Option ℕ) (k a p n d : List ℕ) → opt_among o (0 ∷ 15 ∷ d) ≡ true → opt_among o (0 ∷ 15 ∷ (k ++ (a ++ (p ++ (n ++ d))))) ≡ true
 in_data o k a p n d h = behind o 0 15 k (a ++ (p ++ (n ++ d))) (behind o 0 15 a (p ++ (n ++ d)) (behind o 0 15 p (n ++ d) (behind o 0 15 n d h)))
 
-pub before_has : (m : Module) (rules : RowRules) (r : ReadText) → opt_among (early_fault m rules r) (0 ∷ 15 ∷ check_codes rules) ≡ true
+pub before_has : (q : ReadMessage) → opt_among (early_fault q) (0 ∷ 15 ∷ check_codes q.rules) ≡ true
 unfolding early_fault keys_fault permit_fault
-before_has m rules r =
-    let k = flat_map key_codes rules.keys in
-    let a = where_any rules.acts 29 in
-    let p = where_some rules.parts_differ 75 in
-    let n = where_any rules.acts 17 ++ where_any rules.needs 17 in
-    let d = flat_map (data_codes rules.pin) rules.checks ++ where_some rules.compared 1 in
-    let all = 0 ∷ 15 ∷ check_codes rules in
-    first (keys_fault m rules r rules.keys) (permit_fault m rules r ∷ parts_fault m rules r rules.parts_differ ∷ []) all
-    (in_keys (keys_fault m rules r rules.keys) k a p n d (keys_have m rules r rules.keys))
-    (first (permit_fault m rules r) (parts_fault m rules r rules.parts_differ ∷ []) all
-    (in_acts (permit_fault m rules r) k a p n d (permit_has (λ (u : ActUse). is_used r u.where_present && is_forbidden (act_permit m r u)) rules.acts))
-    (first (parts_fault m rules r rules.parts_differ) [] all (in_parts (parts_fault m rules r rules.parts_differ) k a p n d (parts_have m rules r rules.parts_differ)) refl))
+before_has q =
+    let k = 13 ∷ flat_map key_codes q.rules.keys in
+    let a = where_any q.rules.acts 29 in
+    let p = where_some q.rules.parts_differ 75 in
+    let n = where_any q.rules.acts 17 ++ where_any q.rules.needs 17 in
+    let d = flat_map (data_codes q.rules.pin) q.rules.checks ++ where_some q.rules.compared 1 in
+    let all = 0 ∷ 15 ∷ check_codes q.rules in
+    first (set_fault q) (keys_fault q q.rules.keys ∷ permit_fault q ∷ parts_fault q q.rules.parts_differ ∷ []) all
+    (in_keys (set_fault q) k a p n d (left (set_fault q) (0 ∷ 15 ∷ 13 ∷ []) (flat_map key_codes q.rules.keys) (where_fails (is_loaded q) 13)))
+    (first (keys_fault q q.rules.keys) (permit_fault q ∷ parts_fault q q.rules.parts_differ ∷ []) all
+    (in_keys (keys_fault q q.rules.keys) k a p n d (behind (keys_fault q q.rules.keys) 0 15 (13 ∷ []) (flat_map key_codes q.rules.keys) (keys_have q q.rules.keys)))
+    (first (permit_fault q) (parts_fault q q.rules.parts_differ ∷ []) all
+    (in_acts (permit_fault q) k a p n d (permit_has (λ (u : ActUse). is_used q.read u.where_present && is_forbidden (act_permit q u)) q.rules.acts))
+    (first (parts_fault q q.rules.parts_differ) [] all (in_parts (parts_fault q q.rules.parts_differ) k a p n d (parts_have q q.rules.parts_differ)) refl)))
 
-after_has : (m : Module) (rules : RowRules) (r : ReadText) → opt_among (late_fault m rules r) (0 ∷ 15 ∷ check_codes rules) ≡ true
+after_has : (q : ReadMessage) → opt_among (late_fault q) (0 ∷ 15 ∷ check_codes q.rules) ≡ true
 unfolding late_fault checks_fault
-after_has m rules r =
-    let k = flat_map key_codes rules.keys in
-    let a = where_any rules.acts 29 in
-    let p = where_some rules.parts_differ 75 in
-    let n = where_any rules.acts 17 ++ where_any rules.needs 17 in
-    let d = flat_map (data_codes rules.pin) rules.checks in
-    let c = where_some rules.compared 1 in
-    let all = 0 ∷ 15 ∷ check_codes rules in
-    first (checks_fault m rules r) (compared_fault m rules r rules.compared ∷ []) all
-    (in_data (checks_fault m rules r) k a p n (d ++ c) (left (checks_fault m rules r) (0 ∷ 15 ∷ d) c (checks_have m rules r rules.checks)))
-    (first (compared_fault m rules r rules.compared) [] all
-    (in_data (compared_fault m rules r rules.compared) k a p n (d ++ c) (behind (compared_fault m rules r rules.compared) 0 15 d c (compared_has m rules r rules.compared))) refl)
+after_has q =
+    let k = 13 ∷ flat_map key_codes q.rules.keys in
+    let a = where_any q.rules.acts 29 in
+    let p = where_some q.rules.parts_differ 75 in
+    let n = where_any q.rules.acts 17 ++ where_any q.rules.needs 17 in
+    let d = flat_map (data_codes q.rules.pin) q.rules.checks in
+    let c = where_some q.rules.compared 1 in
+    let all = 0 ∷ 15 ∷ check_codes q.rules in
+    first (checks_fault q) (compared_fault q q.rules.compared ∷ []) all
+    (in_data (checks_fault q) k a p n (d ++ c) (left (checks_fault q) (0 ∷ 15 ∷ d) c (checks_have q q.rules.checks)))
+    (first (compared_fault q q.rules.compared) [] all
+    (in_data (compared_fault q q.rules.compared) k a p n (d ++ c) (behind (compared_fault q q.rules.compared) 0 15 d c (compared_has q q.rules.compared))) refl)
 
 -- the first check that fails has one of the codes of the row's checks
-pub read_has : (m : Module) (rules : RowRules) (r : ReadText) (g : Granted) → (early_fault m rules r ≡ None → MayRefuse rules g)
-    → opt_among (check_read m rules r g) (0 ∷ 15 ∷ check_codes rules) ≡ true
+pub read_has : (q : ReadMessage) (g : Granted) → (early_fault q ≡ None → MayRefuse q.rules g)
+    → opt_among (check_read q g) (0 ∷ 15 ∷ check_codes q.rules) ≡ true
 unfolding check_read
-read_has m rules r g may = go (early_fault m rules r) (before_has m rules r) may where
-  go : (o : Option ℕ) → opt_among o (0 ∷ 15 ∷ check_codes rules) ≡ true → (o ≡ None → MayRefuse rules g)
-      → opt_among (first_code (o ∷ entry_fault g ∷ late_fault m rules r ∷ [])) (0 ∷ 15 ∷ check_codes rules) ≡ true
+read_has q g may = go (early_fault q) (before_has q) may where
+  go : (o : Option ℕ) → opt_among o (0 ∷ 15 ∷ check_codes q.rules) ≡ true → (o ≡ None → MayRefuse q.rules g)
+      → opt_among (first_code (o ∷ entry_fault g ∷ late_fault q ∷ [])) (0 ∷ 15 ∷ check_codes q.rules) ≡ true
   go (Some code) here may = here
   go None here may =
-      let k = flat_map key_codes rules.keys in
-      let a = where_any rules.acts 29 in
-      let p = where_some rules.parts_differ 75 in
-      let n = where_any rules.acts 17 ++ where_any rules.needs 17 in
-      let d = flat_map (data_codes rules.pin) rules.checks ++ where_some rules.compared 1 in
-      let all = 0 ∷ 15 ∷ check_codes rules in
-      first (entry_fault g) (late_fault m rules r ∷ []) all (in_needs (entry_fault g) k a p n d (entry_has rules.acts rules.needs g (may refl)))
-      (first (late_fault m rules r) [] all (after_has m rules r) refl)
+      let k = 13 ∷ flat_map key_codes q.rules.keys in
+      let a = where_any q.rules.acts 29 in
+      let p = where_some q.rules.parts_differ 75 in
+      let n = where_any q.rules.acts 17 ++ where_any q.rules.needs 17 in
+      let d = flat_map (data_codes q.rules.pin) q.rules.checks ++ where_some q.rules.compared 1 in
+      let all = 0 ∷ 15 ∷ check_codes q.rules in
+      first (entry_fault g) (late_fault q ∷ []) all (in_needs (entry_fault g) k a p n d (entry_has q.rules.acts q.rules.needs g (may refl)))
+      (first (late_fault q) [] all (after_has q) refl)

@@ -20,8 +20,8 @@ pub fn answers_bear_codes()
 
 /// The codes of some rows; a console row has none.
 pub fn codes_of_some_rows()
-    ensures ng { codes_of row_NG ≡ 0 ∷ 14 ∷ 15 ∷ 17 ∷ [] }
-    ensures b2 { codes_of row_B2 ≡ 0 ∷ 15 ∷ [] }
-    ensures m8 { codes_of row_M8 ≡ 0 ∷ 1 ∷ 4 ∷ 10 ∷ 15 ∷ 26 ∷ 27 ∷ 80 ∷ [] }
+    ensures ng { codes_of row_NG ≡ 0 ∷ 13 ∷ 14 ∷ 15 ∷ 17 ∷ [] }
+    ensures b2 { codes_of row_B2 ≡ 0 ∷ 13 ∷ 15 ∷ [] }
+    ensures m8 { codes_of row_M8 ≡ 0 ∷ 1 ∷ 4 ∷ 10 ∷ 13 ∷ 15 ∷ 26 ∷ 27 ∷ 80 ∷ [] }
     ensures gc { codes_of row_GC ≡ [] }
 {}

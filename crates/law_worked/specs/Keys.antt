@@ -11,7 +11,7 @@ use Rattle.hsm_answers.specs.Keys.{key_text}
 use Rattle.hsm_answers.specs.Draws.{drawn_key, drawn_digits}
 use Rattle.hsm_answers.specs.Pins.{block_text}
 use Rattle.hsm_answers.specs.Answers.{answer}
-use Rattle.law_worked.specs.Modules.{counted_module, equal_module, other_pvk_module, two_parts, short_key, long_key, first_drawn, second_drawn, sealed_key, account, sealed_digits, enciphered_digits}
+use Rattle.law_worked.specs.Modules.{counted_module, counted_set, equal_module, other_pvk_module, two_parts, short_key, long_key, first_drawn, second_drawn, sealed_key, account, sealed_digits, enciphered_digits}
 use Rattle.law_worked.specs.Messages.{answers}
 
 -- an imported key whose parts are equal is refused with 75
@@ -60,7 +60,7 @@ GcShows = answers counted_module row_GC (codes " 001 Z") (granted.Use 0) (codes 
 
 -- a PIN of four digits
 abbrev pub JaDraws : Type 0
-JaDraws = answers counted_module row_JA (account ++ codes "04") (granted.Use 0) (codes "JB00" ++ block_text (sealed_pin counted_module.lmk (drawn_digits counted_module 0 4) (map digit_value account)))
+JaDraws = answers counted_module row_JA (account ++ codes "04") (granted.Use 0) (codes "JB00" ++ block_text (sealed_pin counted_set (drawn_digits counted_module 0 4) (map digit_value account)))
 
 -- the TPK opens to even bytes
 abbrev pub CaParity : Type 0

@@ -17,13 +17,17 @@ use Rattle.law_worked.specs.Modules.{counted_module, equal_module}
 abbrev pub answers : Module → RowShape → List ℕ → Granted → List ℕ → Type 0
 answers m row text g reply = answer m row text g ≡ reply
 
+-- the module with this one LMK set
+abbrev pub with_set : Module → List (List (List ℕ)) → Module
+with_set m set = record m { lmks = record { items = set ∷ [] } }
+
 -- a ZMK of one part is refused with 27, whatever the LMK set
 abbrev pub A0Length : Type 0
-A0Length = (m : Module) (g : Granted) → answers m row_A0 (codes "0000Z") g (codes "A127")
+A0Length = (m : Module) (set : List (List (List ℕ))) (g : Granted) → answers (with_set m set) row_A0 (codes "0000Z") g (codes "A127")
 
 -- two schemes of different lengths are refused with 26
 abbrev pub A0Schemes : Type 0
-A0Schemes = (m : Module) (g : Granted) → answers m row_A0 (codes "1001UU00000000000000000000000000000000Z") g (codes "A126")
+A0Schemes = (m : Module) (set : List (List (List ℕ))) (g : Granted) → answers (with_set m set) row_A0 (codes "1001UU00000000000000000000000000000000Z") g (codes "A126")
 
 -- a code that is in no table is refused with 04
 abbrev pub A0Type : Type 0
@@ -31,7 +35,7 @@ A0Type = (m : Module) (g : Granted) → answers m row_A0 (codes "0004Z") g (code
 
 -- a key of two parts with flag 0 is refused with 27
 abbrev pub BuLength : Type 0
-BuLength = (m : Module) (g : Granted) → answers m row_BU (codes "010U00000000000000000000000000000000") g (codes "BV27")
+BuLength = (m : Module) (set : List (List (List ℕ))) (g : Granted) → answers (with_set m set) row_BU (codes "010U00000000000000000000000000000000") g (codes "BV27")
 
 -- flag 5 is refused with 05
 abbrev pub BuFlag : Type 0
@@ -43,11 +47,11 @@ CcFormat = (m : Module) (g : Granted) → answers m row_CC (codes "85E813540F0AB
 
 -- JA draws as many words as digits
 abbrev pub JaAsk : Type 0
-JaAsk = (m : Module) → ask_of m row_JA (codes "12345678901204") ≡ ask.Use record { first = None; second = None } 4
+JaAsk = (m : Module) (set : List (List (List ℕ))) → ask_of (with_set m set) row_JA (codes "12345678901204") ≡ ask.Use record { first = None; second = None } 4
 
 -- the data and a trailer are repeated
 abbrev pub B2Echo : Type 0
-B2Echo = (m : Module) (g : Granted) → answers m row_B2 (codes "0003" ++ (0x41 ∷ 0x19 ∷ 0x42 ∷ 0x19 ∷ 0x41 ∷ [])) (granted.Use 0) (codes "B300" ++ (0x41 ∷ 0x19 ∷ 0x42 ∷ 0x19 ∷ 0x41 ∷ []))
+B2Echo = (m : Module) (set : List (List (List ℕ))) (g : Granted) → answers (with_set m set) row_B2 (codes "0003" ++ (0x41 ∷ 0x19 ∷ 0x42 ∷ 0x19 ∷ 0x41 ∷ [])) (granted.Use 0) (codes "B300" ++ (0x41 ∷ 0x19 ∷ 0x42 ∷ 0x19 ∷ 0x41 ∷ []))
 
 -- no grants and two host ports
 abbrev pub NoGrants : Type 0
@@ -55,7 +59,7 @@ NoGrants = answers equal_module row_NO (codes "00") (granted.Seen 0 0 record { i
 
 -- NO looks
 abbrev pub NoAsk : Type 0
-NoAsk = (m : Module) → ask_of m row_NO (codes "00") ≡ ask.Look
+NoAsk = (m : Module) (set : List (List (List ℕ))) → ask_of (with_set m set) row_NO (codes "00") ≡ ask.Look
 
 -- an unknown command
 abbrev pub Unknown : Type 0
@@ -63,7 +67,7 @@ Unknown = unknown_answer place.Host (codes "ZZ") ≡ codes "Z[68"
 
 -- NG without the activity
 abbrev pub NgRefused : Type 0
-NgRefused = (m : Module) → answers m row_NG (codes "12345678901285E813540F0AB405") granted.Refused (codes "NH17")
+NgRefused = (m : Module) (set : List (List (List ℕ))) → answers (with_set m set) row_NG (codes "12345678901285E813540F0AB405") granted.Refused (codes "NH17")
 
 -- a space after the last field is refused with 15
 abbrev pub VaTrailing : Type 0
@@ -71,7 +75,7 @@ VaTrailing = (m : Module) (g : Granted) → answers m row_VA (codes " ") g (code
 
 -- a star cancels all
 abbrev pub CAll : Type 0
-CAll = (m : Module) → ask_of m row_C (codes " *") ≡ ask.CancelAll
+CAll = (m : Module) (set : List (List (List ℕ))) → ask_of (with_set m set) row_C (codes " *") ≡ ask.CancelAll
 
 -- two spaces make the type not stand
 abbrev pub GcSpaces : Type 0
@@ -83,11 +87,11 @@ GcTogether = (m : Module) (g : Granted) → answers m row_GC (codes " 001Z") g (
 
 -- GC without the activity
 abbrev pub GcRefused : Type 0
-GcRefused = (m : Module) → answers m row_GC (codes " 001 Z") granted.Refused (codes "NO 17")
+GcRefused = (m : Module) (set : List (List (List ℕ))) → answers (with_set m set) row_GC (codes " 001 Z") granted.Refused (codes "NO 17")
 
 -- a joined key whose parts are equal is refused with 75
 abbrev pub FkRepeats : Type 0
-FkRepeats = (m : Module) (g : Granted) → answers m row_FK (codes " 402 U 01010101010101010101010101010101 00000000000000000000000000000000") g (codes "NO 75")
+FkRepeats = (m : Module) (set : List (List (List ℕ))) (g : Granted) → answers (with_set m set) row_FK (codes " 402 U 01010101010101010101010101010101 00000000000000000000000000000000") g (codes "NO 75")
 
 -- BU of 85E813540F0AB405 under the equal set
 abbrev pub BuKey : Type 0
@@ -127,7 +131,7 @@ UnknownWord = (g : Granted) → message_answer equal_module place.Console (codes
 
 -- generating a ZMK needs its activity, and two words a part
 abbrev pub A0Ask : Type 0
-A0Ask = ask_of counted_module row_A0 (codes "0000U") ≡ ask.Use record { first = Some record { category = category.Generate; ty = Some Zmk; place = Some place.Host }; second = None } 4
+A0Ask = ask_of counted_module row_A0 (codes "0000U") ≡ ask.Use record { first = Some record { category = category.Generate; ty = Some Zmk; place = Some place.Host; set = Some 0 }; second = None } 4
 
 -- a message that is refused before its entry asks for nothing
 abbrev pub A0NoAsk : Type 0
@@ -135,11 +139,11 @@ A0NoAsk = ask_of counted_module row_A0 (codes "0000Z") ≡ empty_ask
 
 -- RA cancels all grants
 abbrev pub RaAsk : Type 0
-RaAsk = (m : Module) → ask_of m row_RA [] ≡ ask.CancelAll
+RaAsk = (m : Module) (set : List (List (List ℕ))) → ask_of (with_set m set) row_RA [] ≡ ask.CancelAll
 
 -- and is answered without reply fields
 abbrev pub RaDone : Type 0
-RaDone = (m : Module) → answers m row_RA [] (granted.Cancelled 1) (codes "RB00")
+RaDone = (m : Module) (set : List (List (List ℕ))) → answers (with_set m set) row_RA [] (granted.Cancelled 1) (codes "RB00")
 
 -- an activity that no text names is refused with 15
 abbrev pub AActivity : Type 0

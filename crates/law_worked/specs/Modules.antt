@@ -9,6 +9,7 @@ use Rattle.hsm_parity.specs.Parity.{adjusted}
 use Rattle.hsm_tdes.specs.Tdes.{enciphered}
 use Rattle.hsm_nibbles.specs.Nibbles.{block_of}
 use Rattle.hsm_nibbles.specs.Characters.{bytes_of_hex, digit_value}
+use Rattle.hsm_lmk.specs.Pairs.{set_at}
 use Rattle.hsm_lmk.specs.Sealing.{wrap}
 use Rattle.hsm_pinblock.specs.Blocks.{sealed_pin}
 use Rattle.hsm_rows.specs.declared.settings.Module.{Module}
@@ -33,7 +34,7 @@ table_permits = record {
 
 -- the module of an LMK set
 abbrev pub module_of : List (List (List ℕ)) → Module
-module_of set = record { lmk = set; permits = table_permits; disabled = record { items = [] }; header = 4; hosts = 2; officers = []; seed = replicate 32 0 }
+module_of set = record { lmks = record { items = set ∷ [] }; permits = table_permits; disabled = record { items = [] }; header = 4; hosts = 2; officers = []; seed = replicate 32 0 }
 
 -- a half of the equal set
 abbrev pub half : List ℕ
@@ -51,6 +52,10 @@ counted_pairs k (suc n) = (adjusted (replicate 8 (32 + 2 * k)) ∷ adjusted (rep
 -- the counted set: pair k has the odd-parity forms of 32 + 2k and of 96 + 2k
 unfoldable pub counted_module : Module
 counted_module = module_of (counted_pairs 0 20)
+
+-- its pairs
+abbrev pub counted_set : List (List (List ℕ))
+counted_set = set_at counted_module.lmks.items 0
 
 -- a key of one part
 abbrev pub one_part : List ℕ → List (List ℕ)
@@ -82,7 +87,7 @@ second_drawn = drawn_key counted_module 4 2
 
 -- the text of a key under the counted set
 abbrev pub sealed_key : KeyType → Scheme → List (List ℕ) → List ℕ
-sealed_key ty s key = key_text (wrap counted_module.lmk ty) s key
+sealed_key ty s key = key_text (wrap counted_set ty) s key
 
 -- the account
 abbrev pub account : List ℕ
@@ -90,7 +95,7 @@ account = codes "123456789012"
 
 -- the digits of a PIN under the counted set
 abbrev pub sealed_digits : List ℕ → List ℕ
-sealed_digits pin = block_text (sealed_pin counted_module.lmk (map digit_value pin) (map digit_value account))
+sealed_digits pin = block_text (sealed_pin counted_set (map digit_value pin) (map digit_value account))
 
 -- the digits of a block enciphered under a key
 abbrev pub enciphered_digits : List (List ℕ) → List ℕ → List ℕ

@@ -2,6 +2,7 @@
 use hsm_auth::Ledger;
 use hsm_io::MemSink;
 use hsm_nibbles::hex_character;
+use hsm_rows::Module;
 use hsm_session::{ScriptEnd, ScriptFault, script_run};
 use itoa::Buffer;
 use std::alloc::{Alloc, AllocError, Global};
@@ -17,7 +18,24 @@ pub(crate) fn end_of(entries: u64, cut: u32, short: u32) -> Result<ScriptEnd, Sc
     })
 }
 
-// Runs a script under a set with so many hosts over a new ledger, and compares what it printed and how it ended.
+// Runs a script by a module over a new ledger, and compares what it printed and how it ended.
+fn runs_by(
+    rt: &(impl Abort + Alloc<A = Global>),
+    module: &Module,
+    script: &[u8],
+    output: &[u8],
+    ended: Result<ScriptEnd, ScriptFault>,
+) -> Result<(), Fail> {
+    let alloc = rt.alloc();
+    let mut ledger = Ledger::new(alloc)?;
+    let mut out = MemSink::new(alloc, output.len() + 1_000, Vec::new(alloc))?;
+    let run = script_run(alloc, module, &mut ledger, script, &mut out);
+    assert_eq!(rt; out.bytes(), output);
+    assert_eq!(rt; run, ended);
+    Ok(())
+}
+
+// The same under a set with so many hosts.
 pub(crate) fn runs_on(
     rt: &(impl Abort + Alloc<A = Global>),
     set: Set,
@@ -26,14 +44,8 @@ pub(crate) fn runs_on(
     output: &[u8],
     ended: Result<ScriptEnd, ScriptFault>,
 ) -> Result<(), Fail> {
-    let alloc = rt.alloc();
-    let module = module_of(alloc, set, hosts).ok_or("module")?;
-    let mut ledger = Ledger::new(alloc)?;
-    let mut out = MemSink::new(alloc, output.len() + 1_000, Vec::new(alloc))?;
-    let run = script_run(alloc, &module, &mut ledger, script, &mut out);
-    assert_eq!(rt; out.bytes(), output);
-    assert_eq!(rt; run, ended);
-    Ok(())
+    let module = module_of(rt.alloc(), set, hosts).ok_or("module")?;
+    runs_by(rt, &module, script, output, ended)
 }
 
 // The same with two hosts.
@@ -96,15 +108,8 @@ pub(crate) fn answers(
     answers_under(rt, Set::T, cases)
 }
 
-// Runs the lines of a script under a set over a new ledger, and compares what they print and how the script ended. With
-// each line stands what it prints.
-pub(crate) fn prints(
-    rt: &(impl Abort + Alloc<A = Global>),
-    set: Set,
-    cases: &[(&str, &str)],
-    ended: Result<ScriptEnd, ScriptFault>,
-) -> Result<(), Fail> {
-    let alloc = rt.alloc();
+// The lines of a script, and what they print: with each line stands what it prints.
+fn joined(alloc: Global, cases: &[(&str, &str)]) -> Result<(Vec<u8>, Vec<u8>), AllocError> {
     let mut script = Vec::new(alloc);
     let mut output = Vec::new(alloc);
     for (line, printed) in cases {
@@ -112,5 +117,28 @@ pub(crate) fn prints(
         script.push(b'\n')?;
         output.extend_from_slice(printed.as_bytes())?;
     }
+    Ok((script, output))
+}
+
+// Runs the lines of a script under a set over a new ledger, and compares what they print and how the script ended.
+pub(crate) fn prints(
+    rt: &(impl Abort + Alloc<A = Global>),
+    set: Set,
+    cases: &[(&str, &str)],
+    ended: Result<ScriptEnd, ScriptFault>,
+) -> Result<(), Fail> {
+    let (script, output) = joined(rt.alloc(), cases)?;
     runs(rt, set, &script, &output, ended)
+}
+
+// The same under two sets.
+pub(crate) fn prints_by_two(
+    rt: &(impl Abort + Alloc<A = Global>),
+    sets: [Set; 2],
+    cases: &[(&str, &str)],
+    ended: Result<ScriptEnd, ScriptFault>,
+) -> Result<(), Fail> {
+    let (script, output) = joined(rt.alloc(), cases)?;
+    let module = module_of_two(rt.alloc(), sets, 2).ok_or("module")?;
+    runs_by(rt, &module, &script, &output, ended)
 }

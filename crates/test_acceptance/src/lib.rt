@@ -17,3 +17,5 @@ mod macs;
 mod pins;
 #[cfg(test)]
 mod scripts;
+#[cfg(test)]
+mod sets;

@@ -30,6 +30,7 @@ fn activity(number: usize) -> Activity {
         category: CATEGORIES[number / 9 % 4],
         ty: Some(TYPES[number % 9]),
         place: None,
+        set: None,
     }
 }
 

@@ -6,7 +6,7 @@ use std::test::Fail;
 
 #[test]
 fn texts_name_activities_or_nothing(rt: HostRuntime) {
-    let texts: [(&[u8], bool); 15] = [
+    let texts: [(&[u8], bool); 21] = [
         (b"generate", true),
         (b"import.00A", true),
         (b"export.402.host", true),
@@ -22,6 +22,12 @@ fn texts_name_activities_or_nothing(rt: HostRuntime) {
         (b"export.host.402", false),
         (b"pin.clear.001", false),
         (b"component.hosts", false),
+        (b"generate.lmk00", true),
+        (b"import.00A.lmk03", true),
+        (b"pin.clear.console.lmk01", true),
+        (b"export.402.lmk04", false),
+        (b"component.lmk1", false),
+        (b"pin.clear.lmk02.host", false),
     ];
     for (text, named) in texts {
         let printed = Activity::read(text).map(|activity| activity.text());
@@ -38,6 +44,7 @@ fn pin_clear(place: Option<Place>) -> Activity {
         category: Category::PinClear,
         ty: None,
         place,
+        set: None,
     }
 }
 

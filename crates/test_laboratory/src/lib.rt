@@ -59,6 +59,15 @@ fn config_text(alloc: Global, set: Set, hosts: u8) -> Result<Vec<u8>, AllocError
     Ok(text)
 }
 
+/// The module of two sets, 00 and 01, with so many hosts, 1 to 64, and the seed of zeros; none as of [`module_of`].
+pub fn module_of_two(alloc: Global, sets: [Set; 2], hosts: u8) -> Option<Module> {
+    let mut module = module_of(alloc, sets[0], hosts)?;
+    let other = module_of(alloc, sets[1], hosts)?;
+    let set = other.lmks.first()?;
+    module.lmks.try_push(*set).ok()?;
+    Some(module)
+}
+
 /// The module of a set, with so many hosts, 1 to 64, and the seed of zeros; none for another number of hosts, or where
 /// memory is refused.
 pub fn module_of(alloc: Global, set: Set, hosts: u8) -> Option<Module> {

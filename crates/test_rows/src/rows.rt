@@ -99,17 +99,21 @@ fn refuses_console_texts(rt: HostRuntime) {
 #[test]
 fn reads_console_texts(rt: HostRuntime) {
     match console_row(b"FK") {
-        Some(row) => match read_fields(row, b" 001 Z 0123456789ABCDEF 1111111111111111") {
+        Some(row) => match read_fields(row, b" 001 Z 0123456789ABCDEF 1111111111111111 %03") {
             Ok(fields) => assert_eq!(rt;
-                fields.texts.as_slice(),
-                [
-                    b"001".as_slice(),
-                    b"Z",
-                    b"0123456789ABCDEF",
-                    b"1111111111111111",
-                    b""
-                ]
-                .as_slice()
+                (fields.texts.as_slice(), fields.set),
+                (
+                    [
+                        b"001".as_slice(),
+                        b"Z",
+                        b"0123456789ABCDEF",
+                        b"1111111111111111",
+                        b"",
+                        b"%03"
+                    ]
+                    .as_slice(),
+                    3
+                )
             ),
             Err(_) => assert!(rt; false, "refused"),
         },
@@ -159,16 +163,16 @@ fn explains_each_host_row(rt: HostRuntime) {
     }
 }
 
-// The codes of some host rows, worked out by hand from the rule: 00; 15; those of the fields; 26, 27 and the parity codes
+// The codes of some host rows, worked out by hand from the rule: 00; 13; 15; those of the fields; 26, 27 and the parity codes
 // where there are keys; 29, 75 and 17; those of the data checks; 01.
 #[rattlefmt::skip]
 const NAMED: [(&[u8; 2], &[u8]); 6] = [
-    (b"A0", &[0, 4, 10, 15, 17, 26, 27, 29]),
-    (b"A6", &[0, 4, 10, 11, 15, 17, 26, 27, 29, 75]),
-    (b"DA", &[0, 1, 10, 11, 15, 20, 23, 24, 25, 26, 27]),
-    (b"NG", &[0, 14, 15, 17]),
-    (b"M8", &[0, 1, 4, 10, 15, 26, 27, 80]),
-    (b"B2", &[0, 15]),
+    (b"A0", &[0, 4, 10, 13, 15, 17, 26, 27, 29]),
+    (b"A6", &[0, 4, 10, 11, 13, 15, 17, 26, 27, 29, 75]),
+    (b"DA", &[0, 1, 10, 11, 13, 15, 20, 23, 24, 25, 26, 27]),
+    (b"NG", &[0, 13, 14, 15, 17]),
+    (b"M8", &[0, 1, 4, 10, 13, 15, 26, 27, 80]),
+    (b"B2", &[0, 13, 15]),
 ];
 
 #[test]

@@ -18,7 +18,7 @@ pub slice_bounds-result-start : goal.slice_bounds-result-start
 slice_bounds-result-start c = long (goal.at.slice_bounds-result-start c).In-Some
 
 pub returns-in-Some-clause-every : goal.returns-in-Some-clause-every
-returns-in-Some-clause-every c t p may e =
+returns-in-Some-clause-every c t p n may e =
     sym (type_with-code_of c.in-Some.ty)
     ∙ (ap (λ (x : List ℕ). type_with (drop 1 x)) (sym ((c.in-Some.ensures c.in-Some.ty).0 refl))
-    ∙ (ap (λ (x : List ℕ). type_with (drop 1 (take 4 x))) e ∙ type-front t p))
+    ∙ (ap (λ (x : List ℕ). type_with (drop 1 (take 4 x))) e ∙ type-front t p n))

@@ -10,5 +10,5 @@ returns-in_ok-keys-in-len2-2-clause-cache c =
     record {
       agrees = two.agrees;
       capacity = two.capacity ∙ one.capacity;
-      kept = two_kept _ _ _ c.args.checks.now _ _ _ _ _ c.in-len2.len_at_least c.in-len2.len_below c.in_ok-keys-in-len2.ensures.fault c.in_ok-keys-in-len2-2.ensures.fault one.kept second;
+      kept = two_kept _ c.args.checks.now _ _ _ _ _ c.in-len2.len_at_least c.in-len2.len_below c.in_ok-keys-in-len2.ensures.fault c.in_ok-keys-in-len2-2.ensures.fault one.kept second;
     }

@@ -2,20 +2,19 @@ use Rattle.std.proofs.Common.{◌≡◌, ℕ, List, Bool, true, false, ◌++◌,
 use Rattle.std.specs.Prelude.{codes, if◌then◌else◌}
 use Rattle.hsm_auth.specs.declared.entry.Granted.{Granted}
 use Rattle.hsm_rows.specs.declared.settings.Module.{Module}
-use Rattle.hsm_rows.specs.Table.{rules_of}
 use Rattle.hsm_rows.specs.Texts.{two_digits}
 use Rattle.hsm_rows.specs.Reading.{is_console}
 use Rattle.hsm_answers.specs.Answers.{answer, is_full}
 use Rattle.hsm_answers.specs.Plans.{fault_at}
 use Rattle.hsm_answers.specs.Values.{values}
 use Rattle.hsm_commands.specs.declared.plan.Plan.{Plan}
-use Rattle.hsm_commands.specs.Plans.{plan_row, plan_text, plan_read, written_fields, IsPlanOf}
+use Rattle.hsm_commands.specs.Plans.{plan_row, plan_text, written_fields, IsPlanOf, plan_message}
 use Rattle.hsm_commands.proofs.ConsoleSteps.{console_answered, console_text, text_after}
 use Rattle.hsm_commands.proofs.plan.put_console.Goals as goal
 
 -- the values of the reply fields
 abbrev plan_values : Module → Plan → Granted → List (List ℕ)
-plan_values m p g = values m (rules_of (plan_row p)) (plan_read p) g (plan_row p).terms
+plan_values m p g = values (plan_message m p) g (plan_row p).terms
 
 -- the answer, where the words are refused or not, and there is a refusal or none
 worded : (m : Module) (p : Plan) (g : Granted) → is_console (plan_row p) ≡ true → IsPlanOf m p → (refused : Bool) → p.wrong_words ≡ refused

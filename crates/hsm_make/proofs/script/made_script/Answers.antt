@@ -1,11 +1,7 @@
 use Rattle.std.proofs.Common.{◌∙◌, ◌+◌, ◌-◌, ◌%◌, ◌^◌, refl, arith}
 use Rattle.hsm_make.specs.Messages.{made_text}
-use Rattle.hsm_make.proofs.SettingsLaws.{test_set}
 use Rattle.hsm_make.proofs.Steps.{all_lines, next_lines, no_lines}
 use Rattle.hsm_make.proofs.script.made_script.Goals as goal
-
-pub sealed_key-key-requires : goal.sealed_key-key-requires
-sealed_key-key-requires c = test_set c.made_module-settings.result c.made_module-settings.ensures
 
 pub messages-init : goal.messages-init
 messages-init c =

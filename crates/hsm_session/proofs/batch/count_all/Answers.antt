@@ -1,8 +1,6 @@
-use Rattle.std.proofs.Common.{◌≡◌, ℕ, ◌+◌, List, length, take, ap, sym, ◌∙◌, arith, length-take}
-use Rattle.std.proofs.lemmas.List.{take_more}
+use Rattle.std.proofs.Common.{◌≡◌, ◌+◌, List, length, take, ap, ◌∙◌, arith, length-take}
 use Rattle.hsm_desk.specs.declared.desk.Booked.{Booked}
 use Rattle.hsm_session.specs.declared.serving.Count.{Count}
-use Rattle.hsm_session.specs.Batches.{counted_all}
 use Rattle.hsm_session.specs.Serving.{one_more}
 use Rattle.hsm_session.proofs.Batching.{counted_messages, counted_next}
 use Rattle.hsm_session.proofs.batch.count_all.Goals as goal

@@ -1,5 +1,5 @@
-use Rattle.std.proofs.Common.{ℕ, length, take, drop, List, sym, ap, ◌∙◌, arith, length-drop}
-use Rattle.std.proofs.lemmas.List.{drop-drop, length-take-le}
+use Rattle.std.proofs.Common.{ℕ, take, drop, List, sym, ap, ◌∙◌}
+use Rattle.std.proofs.lemmas.List.{drop-drop}
 use Rattle.std.proofs.lemmas.List.Folds.{length-prefix_len}
 use Rattle.hsm_auth.specs.declared.activity.Place.{Place}
 use Rattle.hsm_answers.specs.Messages.{command_of, text_after}

@@ -1,4 +1,4 @@
-use Rattle.std.proofs.Common.{◌≡◌, List, ℕ, Option, None, Some, refl, sym, ap, subst, ◌∙◌}
+use Rattle.std.proofs.Common.{◌≡◌, List, ℕ, None, Some, refl, sym, ap, subst, ◌∙◌}
 use Rattle.hsm_lmk.specs.declared.kept.KeyEntry.{KeyEntry}
 use Rattle.hsm_rows.specs.Table.{shape_of}
 use Rattle.hsm_answers.specs.Asks.{ask_of}
