@@ -16,61 +16,27 @@ line is one of these:
     T 36000                         a moment
     # a remark, or nothing
 
-The fields of messages and replies are those of commands.txt, which lies beside this file. Exit status: 0 all lines
-read; 1 a line does not read, with `frames.py: line N: CAUSE` on standard error and nothing on standard output; 2 the
-words are wrong; 3 a file can't be read. It needs the standard library alone.
+The fields of messages and replies are those of commands.txt, as `sothvelm` of tools/ reads them. Exit status: 0 all
+lines read; 1 a line does not read, with `frames.py: line N: CAUSE` on standard error and nothing on standard output; 2
+the words are wrong; 3 a file can't be read. It needs the standard library alone.
 """
 import os
 import re
 import sys
 
+# Beside examples/, where sothvelm is not installed.
+sys.path.append(os.path.join(os.path.dirname(os.path.dirname(os.path.abspath(__file__))), "tools"))
+
+from sothvelm import table  # noqa: E402
+from sothvelm.forms import read_message, read_reply  # noqa: E402
+
 USAGE = "usage: python3 examples/frames.py script|lines|output [FILE] [--header TEXT]"
 MOST_BYTES, MOST_TEXT, MOST_MOMENT = 65535, 1000, 2**40
-TABLE = os.path.join(os.path.dirname(os.path.abspath(__file__)), "commands.txt")
 HEX = "[0-9A-Fa-f]"
-KEYS = {tag: f"{tag}{HEX}{{{digits}}}" for tag, digits in (("Z", 16), ("U", 32), ("T", 48), ("X", 32), ("Y", 48))}
-KEY = f"{HEX}{{16}}|{KEYS['Z']}|{KEYS['U']}|{KEYS['T']}"
-TYPE = "000|001|002|402|003|008|009|00A|00B"
-FORMS = {
-    "K": KEY, "P": f"{HEX}{{32}}|{KEYS['U']}", "W": f"{KEY}|{KEYS['X']}|{KEYS['Y']}", "type": TYPE,
-    "mactype": "003|008", "type2": "FF|0[012389AB]", "flag": "[012]", "scheme": "[ZUT]", "wscheme": "[ZUTXY]",
-    "format": "01|03|05|47", "len": "0[4-9]|1[012]", "[;f]": ";[01]|(?!;)", "pan": "[0-9]{12,19};",
-    "12F": "(?=.{12})[0-9]*F*", "offs": "(?=.{12})[0-9]*F*", "12V": f"(?=.{{12}}){HEX}*N{HEX}*", "0to1": "[01]",
-    "0to2": "[012]", "0to3": "[0-3]", "1or3": "[13]", "count": f"{HEX}{{4}}", "00": "00", ";": ";",
-    "hex": f"{HEX}*", "text": "[^\x19]*"}
 
 
 class Wrong(Exception):
     """A line does not read."""
-
-
-# The table of commands
-
-class Command:
-    """A command: its reply code, what it does, and the fields of its message and of its reply."""
-
-    def __init__(self, reply, title):
-        self.reply, self.title = reply, title
-        self.fields = {">": [], "<": []}
-
-
-def read_table(path=TABLE):
-    """The commands by code, and the meanings of error codes."""
-    commands, meanings, last = {}, {}, None
-    with open(path, encoding="utf-8") as file:
-        for number, line in enumerate(file, 1):
-            words = line.rstrip("\n").split(" ", 3)
-            if line.startswith("#") or not line.strip():
-                continue
-            if words[0] in (">", "<") and len(words) == 4 and last:
-                last.fields[words[0]].append(tuple(words[1:]))
-            elif words[0] == "!" and len(words) > 2:
-                meanings[words[1]] = " ".join(words[2:])
-            elif words[0] not in ("!", ">", "<") and len(words) > 2:
-                last = commands[words[0]] = Command(words[1], " ".join(words[2:]))
-            else:
-                raise Wrong(f"{path}: line {number} is none of a command, a field and a meaning")
-    return commands, meanings
 
 
 # Texts of bytes, one character a byte
@@ -95,55 +61,6 @@ def bytes_of(text, column=0):
 def readable(data):
     """A text of bytes as it is written in a readable line."""
     return re.sub(r"^=|[^!-z~]", lambda found: f"{{{ord(found[0]):02X}}}", data)
-
-
-def size_of(form, texts, rest):
-    """The number of characters of a form at the front of the rest, or None where no text of it stands."""
-    condition, _, plain = form.rpartition(":")
-    if condition and texts[0] not in ([condition] if condition == "FF" else list(condition.removeprefix("mode"))):
-        return 0
-    if (counted := re.fullmatch("([0-9]+)([NH])", plain)):
-        pattern = ("[0-9]" if counted[2] == "N" else HEX) + f"{{{counted[1]}}}"
-    elif plain == "KF":
-        pattern = {"0": f"{HEX}{{16}}|", "1": f"{HEX}{{32}}|"}.get(texts[1], "") + "|".join(KEYS[tag] for tag in "ZUT")
-    elif plain == "data":
-        return min(len(rest), int(texts[-1], 16)) if texts else len(rest)
-    elif plain == "mac":
-        pattern = HEX + ("{8}" if texts[2] == "0" else "{16}")
-    else:
-        pattern = FORMS[plain]
-    found = re.compile(f"(?:{pattern})", re.DOTALL).match(rest)
-    if not found or (plain in ("12F", "offs", "12V") and not re.fullmatch(pattern, rest[:12])):
-        return None
-    return 12 if plain in ("12F", "offs", "12V") else found.end()
-
-
-def message_fields(command, rest):
-    """The texts of a message's fields, and what follows the last one that stands."""
-    texts = []
-    for form, _, _ in command.fields[">"]:
-        size = size_of(form, texts, rest)
-        if size is None:
-            break
-        texts.append(rest[:size])
-        rest = rest[size:]
-    return texts, rest
-
-
-def reply_fields(command, rest):
-    """The texts of the fields of a reply without an error, and what follows them."""
-    texts, fields = [], command.fields["<"]
-    for place, (form, _, _) in enumerate(fields):
-        if form == "[W]":
-            after = 6 if place + 1 < len(fields) else 0
-            size = size_of("W", texts, rest) if len(rest.split("\x19")[0]) > after else 0
-        else:
-            size = size_of(form, [], rest)
-        if size is None:
-            break
-        texts.append(rest[:size])
-        rest = rest[size:]
-    return texts, rest
 
 
 # Readable lines into a script
@@ -207,7 +124,10 @@ def readable_line(text, header, commands):
     message = unframed(piece, header)
     if message is None or len(message) < 2 or digits(piece) != text.partition(" ")[2]:
         return f"{word} ={text.partition(' ')[2]}"
-    texts, rest = message_fields(commands[message[:2]], message[2:]) if message[:2] in commands else ([], message[2:])
+    texts, rest = [], message[2:]
+    if message[:2] in commands:
+        reading = read_message(commands[message[:2]], rest)
+        texts, rest = reading.texts, reading.rest
     lmk_set = rest[:3] if re.match("%[0-9][0-9]", rest) else ""
     parts = [message[:2], *texts, lmk_set, rest[len(lmk_set):]]
     return " ".join([word, *(readable(part) for part in parts if part)])
@@ -232,9 +152,11 @@ def named_reply(reply, commands, meanings):
     command = next((one for one in commands.values() if one.reply == reply[:2]), None)
     code, rest = reply[2:4], reply[4:]
     named = f"{readable(reply[:2])} {readable(code)}  {meanings.get(code, 'no known error code')}"
-    texts, rest = reply_fields(command, rest) if command and code == "00" else ([], rest)
-    parts = [f"{name} {readable(field)}" for (_, _, name), field in zip(command.fields["<"] if command else [], texts)
-             if field]
+    parts = []
+    if command and code == "00":
+        reading = read_reply(command, rest)
+        parts = [f"{each.name} {readable(text)}" for each, text in zip(command.answers, reading.texts) if text]
+        rest = reading.rest
     if rest.startswith("\x19"):
         parts.append(f"trailer {readable(rest)}")
     elif rest:
@@ -269,7 +191,7 @@ def main(words):
         print(USAGE, file=sys.stderr)
         return 2
     try:
-        commands, meanings = read_table()
+        rows = table.load()
         if len(words) == 2:
             with open(words[1], encoding="latin-1", newline="\n") as file:
                 text = file.read()
@@ -279,7 +201,7 @@ def main(words):
         print(f"frames.py: {error.filename}: {error.strerror}", file=sys.stderr)
         return 3
     try:
-        sys.stdout.buffer.write(convert(words[0], text, header, commands, meanings).encode("latin-1"))
+        sys.stdout.buffer.write(convert(words[0], text, header, rows.hosts, rows.meanings).encode("latin-1"))
     except Wrong as wrong:
         print(f"frames.py: {wrong}", file=sys.stderr)
         return 1

@@ -1,7 +1,6 @@
 """The whole gateway, from the words of the command line to the exit status."""
 import asyncio
 import contextlib
-import importlib.resources
 import os
 import signal
 import socket
@@ -12,12 +11,13 @@ import traceback
 from collections.abc import Iterator
 from dataclasses import dataclass
 
-from gateway import doors, forms, journal, program, settings
+from gateway import doors, journal, program, settings
 from gateway.figures import Figures
 from gateway.lane import Lane
-from gateway.refusals import Refusals
 from gateway.relay import Relay
 from gateway.watch import Watch
+from sothvelm import table
+from sothvelm.refusals import Refusals
 
 USAGE = "usage: gateway CONFIG, or gateway --check CONFIG; gateway --help says more"
 HELP = """usage: gateway CONFIG
@@ -194,7 +194,7 @@ def refusing() -> Iterator[None]:
     """Turns what may be wrong at the start into the status and the line that tell of it."""
     try:
         yield
-    except (settings.SettingsFault, forms.TableFault) as fault:
+    except (settings.SettingsFault, table.TableFault) as fault:
         raise Refused(WRONG, str(fault)) from None
     except doors.DoorFault as fault:
         raise Refused(NO_DOOR, str(fault)) from None
@@ -205,15 +205,8 @@ def refusing() -> Iterator[None]:
 
 
 def read_table() -> Refusals:
-    """The commands and the meanings of error codes: commands.txt in the package, else that of examples/."""
-    packed = importlib.resources.files("gateway").joinpath("commands.txt")
-    if packed.is_file():
-        text = packed.read_text("utf-8")
-    else:
-        top = os.path.dirname(os.path.dirname(os.path.abspath(__file__)))
-        with open(os.path.join(top, "examples", "commands.txt"), encoding="utf-8") as file:
-            text = file.read()
-    return Refusals(*forms.read_table(text.splitlines()))
+    """Refusals over the table of commands. Raises OSError, TableFault."""
+    return Refusals(table.load())
 
 
 def read(path: str) -> Read:

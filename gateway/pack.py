@@ -12,6 +12,7 @@ import tempfile
 import zipapp
 
 HERE = os.path.dirname(os.path.abspath(__file__))
+TOOLS = ("table.py", "forms.py", "refusals.py")  # of tools/sothvelm, what the gateway uses
 MAIN = '''import sys
 
 if sys.version_info < (3, 11):
@@ -31,7 +32,13 @@ def pack(target: str) -> None:
         for name in os.listdir(HERE):
             if name.endswith(".py") and name not in ("__main__.py", "pack.py"):
                 shutil.copy(os.path.join(HERE, name), package)
-        shutil.copy(os.path.join(os.path.dirname(HERE), "examples", "commands.txt"), package)
+        tools = os.path.join(folder, "sothvelm")
+        os.mkdir(tools)
+        for name in TOOLS:
+            shutil.copy(os.path.join(os.path.dirname(HERE), "tools", "sothvelm", name), tools)
+        with open(os.path.join(tools, "__init__.py"), "w", encoding="ascii") as file:
+            file.write('"""What the gateway uses of tools/sothvelm."""\n')
+        shutil.copy(os.path.join(os.path.dirname(HERE), "examples", "commands.txt"), tools)
         with open(os.path.join(folder, "__main__.py"), "w", encoding="ascii") as file:
             file.write(MAIN)
         zipapp.create_archive(folder, target, "/usr/bin/env python3", compressed=True)

@@ -11,10 +11,10 @@ from typing import TYPE_CHECKING, Callable
 
 from gateway.faults import Faults, refused
 from gateway.figures import OTHER, Figures
-from gateway.forms import trailer_of
 from gateway.journal import Journal, written
-from gateway.refusals import Refusals
 from gateway.settings import FaultRule, Settings
+from sothvelm.forms import trailer_of
+from sothvelm.refusals import Refusals
 
 if TYPE_CHECKING:
     from gateway.client import Client

@@ -5,8 +5,9 @@
 --
 -- The names of commands, fields and error codes are those of commands.txt, which lies in the folder above this file or,
 -- where both were copied to a folder of plugins, beside it. Preferences: the console's port, the host ports, and the
--- length of the header. Frames are put together over TCP segments. Key texts, enciphered PINs, and keys and PINs in the
--- clear are fields of their own kinds, so that `sothvelm.clear` filters what should not be seen.
+-- length of the header. Frames are put together over TCP segments. Key texts, enciphered PINs, and what is in the clear
+-- (keys, PINs, components and officers' words) are fields of their own kinds, so that `sothvelm.clear` filters what
+-- should not be seen.
 
 local sothvelm = Proto("sothvelm", "Sothvelm module")
 
@@ -59,10 +60,10 @@ local function read_table()
         elseif error_code then
             meanings[error_code] = meaning
         elseif code then
-            last = {code = code, title = title, ["<"] = {}, [">"] = {}}
+            last = {code = code, title = title, console = reply == "-", ["<"] = {}, [">"] = {}}
             requests[code] = last
             replies[reply] = last
-        elseif line ~= "" and line:sub(1, 1) ~= "#" then
+        elseif line ~= "" and not line:match("^[#~*=]") then
             error("sothvelm.lua: line " .. number .. " of commands.txt is none of a command, a field and a meaning")
         end
     end
@@ -132,6 +133,8 @@ local SIZES = {
     data = function(rest, texts) return #texts > 0 and math.min(#rest, tonumber(texts[#texts], 16)) or #rest end,
     hex = function(rest) return #rest:match("^%x*") end,
     text = function(rest) return #rest:match("^[^\x19]*") end,
+    comp = function(rest) return run(rest, "%x", 48) or run(rest, "%x", 32) or run(rest, "%x", 16) end,
+    number = function(rest) local digits = rest:match("^%d+"); return digits and #digits end,
     -- The second key text of A1, which stands where more than the check value follows.
     ["[W]"] = function(rest) return #rest:match("^[^\x19]*") > 6 and key(rest, "ZUTXY", 16) or 0 end,
 }
@@ -214,14 +217,60 @@ local function add_host(tree, range, is_reply)
     return info
 end
 
+-- The places and sizes of the texts between spaces behind the first one.
+local function texts_of(text)
+    local found, at = {}, #text:match("^%S*")
+    while at < #text do
+        local each = text:sub(at + 2):match("^%S*")
+        found[#found + 1] = {at = at + 1, text = each}
+        at = at + 1 + #each
+    end
+    return found
+end
+
+-- A text of the console is marked by its place, whether or not it stands, so that a secret in a refused one is, too.
+local function add_texts(tree, range, text, list)
+    for place, each in ipairs(texts_of(text)) do
+        local entry = list[place] or {form = "?", kind = "-", name = "more"}
+        local last = list[#list]
+        if last and last.form == "[%nn]" and each.text:match("^%%%d%d$") then
+            entry = {form = last.form, kind = "set", name = last.name}
+        end
+        if #each.text > 0 then
+            local item = tree:add(fields[entry.kind] or fields.field, range(each.at, #each.text), each.text)
+            item:set_text(entry.name .. " (" .. entry.form .. "): " .. each.text)
+        end
+    end
+end
+
+-- The command whose reply has a field in the clear and just these texts: a reply does not name its command.
+local function shown_by(text)
+    local found = texts_of(text)
+    for _, command in pairs(requests) do
+        local shows, all = false, #found == #command["<"]
+        for place, entry in ipairs(command["<"]) do
+            local each = all and found[place].text
+            all = all and SIZES[entry.form] ~= nil or all and entry.form:match("^%d+[NH]$") ~= nil
+            all = all and size_of(entry.form, each, {}) == #each
+            shows = shows or entry.kind == "clear"
+        end
+        if all and shows and command.console then
+            return command
+        end
+    end
+end
+
 local function add_console(tree, range, is_reply)
     local text = range:string()
     tree:add(fields.text, range)
     if is_reply then
         local cause = text:match("^NO (.+)$")
+        local command = text:match("^OK ") and shown_by(text)
         if cause then
             tree:add(fields.error, range(3), cause)
             tree:add(fields.meaning, range(3), meanings[cause] or "no known cause")
+        elseif command then
+            add_texts(tree, range, text, command["<"])
         end
         return "<" .. text
     end
@@ -229,10 +278,7 @@ local function add_console(tree, range, is_reply)
     if command then
         tree:add(fields.code, range(0, #command.code))
         tree:add(fields.title, range(0, #command.code), command.title)
-        local at = (command.code == "GC" or command.code == "FK") and text:find(" %%%d%d$")
-        if at then
-            tree:add(fields.set, range(at, 3))
-        end
+        add_texts(tree, range, text, command[">"])
     end
     return ">" .. text
 end

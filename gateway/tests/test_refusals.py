@@ -9,8 +9,8 @@ from typing import Any, Callable
 from unittest import mock
 
 from gateway.app import read_table
-from gateway.forms import trailer_of
 from gateway.tests.harness import TOP
+from sothvelm.forms import trailer_of
 
 KEY, PAIR = "U70608A485781E63A744063451C9937C8", "783D054D5587C8BD8FB88A71AC1A5C5D"
 ZMK = "U9F9A79DCD106B37584C5D3D3C418F4AE"
@@ -27,7 +27,7 @@ CASES = [
     (f"CA{KEY}{KEY}12{BLOCK}0101{ACCOUNT}1", "15", "end",
      "behind field 7: something follows that is no LMK set and trailer"),
     ("NCX", "15", "end", "behind the command: something follows that is no LMK set and trailer"),
-    (f"CA{KEY}{KEY}12{BLOCK}0101{ACCOUNT}%01", "13", "set", "the LMK set that the message names is not loaded"),
+    (f"CA{KEY}{KEY}12{BLOCK}0101{ACCOUNT}%01", "13", "set", "%01 behind the fields: the LMK set is not loaded"),
     ("NC%1", "15", "end", "behind the command: something follows that is no LMK set and trailer"),
     (f"CA{KEY}{KEY}12{BLOCK}0101{ACCOUNT}", "10", "keys", f"field 1, TPK: {PARITY}"),
     (f"CA{KEY}{KEY}12{BLOCK}0101{ACCOUNT}", "11", "keys", f"field 2, ZPK: {PARITY}"),

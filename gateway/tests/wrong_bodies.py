@@ -139,8 +139,13 @@ class Wrong:
     test: str
 
 
+def path_of(file: str) -> str:
+    """Where a file stands: in gateway/, or in what it uses of tools/."""
+    return f"tools/sothvelm/{file}.py" if file in ("table", "forms", "refusals") else f"gateway/{file}.py"
+
+
 def read(file: str) -> str:
-    with open(os.path.join(TOP, "gateway", f"{file}.py"), encoding="utf-8") as source:
+    with open(os.path.join(TOP, path_of(file)), encoding="utf-8") as source:
         return source.read()
 
 
@@ -172,10 +177,10 @@ def uncounted() -> list[Wrong]:
 def told_of(place: int, wrong: Wrong) -> str:
     """What the test that is named tells of a copy with the changed file; nothing where it passes."""
     with tempfile.TemporaryDirectory() as folder:
-        for name in "gateway", "examples", "model":
+        for name in "gateway", "tools", "examples", "model":
             shutil.copytree(os.path.join(TOP, name), os.path.join(folder, name),
                             ignore=shutil.ignore_patterns("__pycache__"))
-        with open(os.path.join(folder, "gateway", f"{wrong.file}.py"), "w", encoding="utf-8") as source:
+        with open(os.path.join(folder, path_of(wrong.file)), "w", encoding="utf-8") as source:
             source.write(wrong.text)
         first = FIRST_PORT + PORTS * place
         environment = {**os.environ, "GATEWAY_WAIT": "8", "GATEWAY_PORTS": f"{first} {first + PORTS}"}

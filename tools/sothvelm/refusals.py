@@ -7,7 +7,8 @@ stands in the words.
 """
 from dataclasses import dataclass
 
-from gateway.forms import Command, Reading, parts_of, read_message
+from sothvelm.forms import Reading, parts_of, read_message
+from sothvelm.table import Command, Table
 
 # The fields whose opened keys the error codes 10 and 11 speak of.
 PARITY = {
@@ -48,14 +49,14 @@ class Refusal:
 
 
 class Refusals:
-    """Refusals over the commands and the meanings of error codes of commands.txt."""
+    """Refusals over the table of commands."""
 
-    def __init__(self, commands: dict[str, Command], meanings: dict[str, str]) -> None:
-        self.commands, self.meanings = commands, meanings
+    def __init__(self, table: Table) -> None:
+        self.table, self.commands = table, table.hosts
 
     def explain(self, message: str, code: str) -> Refusal:
         """Why a message, from its command code on, was answered with this error code, which is not 00."""
-        meaning = self.meanings.get(code, "no known error code")
+        meaning = self.table.meaning(code)
         command = self.commands.get(message[:2])
         if command is None or code == "68":
             return Refusal("command", 0, meaning)
@@ -64,14 +65,34 @@ class Refusals:
             if reading.code != code:
                 return Refusal("unknown", 0, meaning)
             return unread(command, reading, meaning)
+        if reading.lmk_set is not None and code == "13":
+            return Refusal("set", 0, f"{reading.rest[:3]} behind the fields: the LMK set is not loaded")
         found = self.behind(command, reading.texts, code, meaning)
         return found or Refusal("unknown", 0, meaning)
+
+    def explain_console(self, text: str, cause: str) -> Refusal:
+        """Why a text of the console was answered `NO` with this cause."""
+        meaning = self.table.meaning(cause)
+        word = text.split(" ")[0]
+        command = self.table.console.get(word)
+        if command is None or cause == "68":
+            return Refusal("command", 0, meaning)
+        reading = read_message(command, text[len(word):])
+        if reading.failed:
+            return unread(command, reading, meaning) if reading.code == cause else Refusal("unknown", 0, meaning)
+        if cause == "17":
+            return Refusal("activity", 0, f"{meaning}: component.{reading.texts[0]}.console")
+        if cause == "27":
+            parts = " or ".join(map(str, PARTS_OF_TYPE.get(reading.texts[0], (1, 2, 3))))
+            return at(command, "keys", 2, f"{meaning}: the type {reading.texts[0]} wants {parts}")
+        if cause == "75":
+            return at(command, "parts", 3, f"{meaning}, once the components are joined")
+        checks = {"WORDS": "words", "FULL": "grants", "13": "set"}
+        return Refusal(checks.get(cause, "unknown"), 0, meaning)
 
     def behind(self, command: Command, texts: list[str], code: str, meaning: str) -> Refusal | None:
         """The refusal of a message that reads."""
         name = command.code
-        if code == "13":
-            return Refusal("set", 0, meaning)
         if code in PARITY.get(name, {}):
             number = PARITY[name][code]
             words = "the key has a byte of even parity, as where the text is of another LMK set or key type"
@@ -121,7 +142,8 @@ def unread(command: Command, reading: Reading, meaning: str) -> Refusal:
     """The refusal of a field that does not stand, or of what follows the fields."""
     if reading.failed > len(command.fields):
         where = f"behind field {len(command.fields)}" if command.fields else "behind the command"
-        return Refusal("end", 0, f"{where}: something follows that is no LMK set and trailer")
+        what = "something follows" if command.is_console else "something follows that is no LMK set and trailer"
+        return Refusal("end", 0, f"{where}: {what}")
     form = command.fields[reading.failed - 1].form
     words = meaning if reading.code != "15" else f"no text of the form {form}"
     if reading.is_short:

@@ -1,0 +1,4 @@
+"""`python3 -m sothvelm`."""
+from sothvelm.main import run
+
+run()

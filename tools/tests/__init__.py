@@ -1,0 +1,1 @@
+"""Tests of tools/sothvelm, which checks/tools runs."""
