@@ -8,7 +8,7 @@ use itoa::Buffer;
 use std::alloc::{Alloc, AllocError, Global};
 use std::process::Abort;
 use std::test::Fail;
-use test_laboratory::{Set, module_of};
+use test_laboratory::{Set, module_of, module_of_two};
 
 pub(crate) fn end_of(entries: u64, cut: u32, short: u32) -> Result<ScriptEnd, ScriptFault> {
     Ok(ScriptEnd {
