@@ -72,6 +72,14 @@ WRONG = [
      "test_why.Places.test_cases"),
     ("a_pin_is_shown", "tools/sothvelm/why.py", "any(each.is_secret for each in found.command.fields)", "found.field.is_secret",
      "test_why.Secrets.test_none_is_shown"),
+    ("any_line_in_the_history", "tools/sothvelm/prompt.py", "                if session.may_be_kept(line):\n", "                if line:\n",
+     "test_prompt.Terminal.test_session"),
+    ("a_word_in_the_history", "tools/sothvelm/prompt.py", "all(stands(each, [], text) for each, text in zip(asked, given))", "True",
+     "test_prompt.History.test_lines_that_are_kept"),
+    ("a_word_on_the_screen", "tools/sothvelm/keys.py", "return getpass.getpass(prompt).strip()", "return input(prompt).strip()",
+     "test_prompt.Terminal.test_session"),
+    ("a_line_with_words_is_sent", "tools/sothvelm/prompt.py", "if len(given) != len(asked) + is_set:", "if False:",
+     "test_prompt.Lines.test_a_line_that_is_not_sent"),
 ]
 
 
