@@ -13,6 +13,12 @@ lowest first:
     call, client       clients with a method for each command
     module             `hsm_tool`, found, run, and served on free ports
     pytest_plugin      fixtures over `module`
+    main               the command: its words, its lines on standard error, its exit statuses
+    keys               `sothvelm key`
+    toml, lint         `sothvelm lint`
+    why                `sothvelm why`
+    prompt             `sothvelm console`
+    page, page.html    `sothvelm page`
 """
 from typing import TYPE_CHECKING, Any
 

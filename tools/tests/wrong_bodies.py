@@ -80,6 +80,22 @@ WRONG = [
      "test_prompt.Terminal.test_session"),
     ("a_line_with_words_is_sent", "tools/sothvelm/prompt.py", "if len(given) != len(asked) + is_set:", "if False:",
      "test_prompt.Lines.test_a_line_that_is_not_sent"),
+    ("a_pin_in_the_frame", "tools/sothvelm/page.py", '"\\u2022" * len(value) if each.is_secret else value', "value",
+     "test_page.Frames.test_secrets_are_masked"),
+    ("a_pin_in_the_title", "tools/sothvelm/page.html", "  show(came);\n", "  show(came); document.title = row.code + texts();\n",
+     "test_page.Page.test_secrets"),
+    ("a_pin_shown_at_once", "tools/sothvelm/page.html", 'field.secret ? "" : field.text, { className', 'field.text, { className',
+     "test_page.Page.test_secrets"),
+    ("requests_in_a_log", "tools/sothvelm/page.py", '        """Nothing is written down."""', "        print(format % args)",
+     "test_page.Requests.test_nothing_is_written_down"),
+    ("any_page_may_send", "tools/sothvelm/page.py", 'self.headers.get("X-Sothvelm") != self.server.token', "False",
+     "test_page.Requests.test_others_are_refused"),
+    ("a_refusal_without_its_field", "tools/sothvelm/page.html", 'input.setAttribute("aria-invalid", "true");', "",
+     "test_page.Page.test_a_refusal_is_marked"),
+    ("a_field_without_help", "tools/sothvelm/page.html", 'const words = make("p", help,', 'const words = make("p", "",',
+     "test_page.Page.test_each_commands_form"),
+    ("a_script_from_elsewhere", "tools/sothvelm/page.html", "</head>", '<script src="https://elsewhere.example/x.js"></script></head>',
+     "test_page.Requests.test_the_page_names_nothing_elsewhere"),
 ]
 
 
