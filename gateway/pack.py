@@ -6,10 +6,8 @@
 Exit status: 0 TARGET is written; 2 the words are no name of a file; 3 it can't be written, which a line tells.
 """
 import os
-import shutil
 import sys
-import tempfile
-import zipapp
+import zipfile
 
 HERE = os.path.dirname(os.path.abspath(__file__))
 TOOLS = ("table.py", "forms.py", "refusals.py")  # of tools/sothvelm, what the gateway uses
@@ -24,24 +22,28 @@ sys.exit(main(sys.argv[1:]))
 '''
 
 
-def pack(target: str) -> None:
-    """Writes the file. Raises OSError."""
-    with tempfile.TemporaryDirectory() as folder:
-        package = os.path.join(folder, "gateway")
-        os.mkdir(package)
-        for name in os.listdir(HERE):
-            if name.endswith(".py") and name not in ("__main__.py", "pack.py"):
-                shutil.copy(os.path.join(HERE, name), package)
-        tools = os.path.join(folder, "sothvelm")
-        os.mkdir(tools)
-        for name in TOOLS:
-            shutil.copy(os.path.join(os.path.dirname(HERE), "tools", "sothvelm", name), tools)
-        with open(os.path.join(tools, "__init__.py"), "w", encoding="ascii") as file:
-            file.write('"""What the gateway uses of tools/sothvelm."""\n')
-        shutil.copy(os.path.join(os.path.dirname(HERE), "examples", "commands.txt"), tools)
-        with open(os.path.join(folder, "__main__.py"), "w", encoding="ascii") as file:
-            file.write(MAIN)
-        zipapp.create_archive(folder, target, "/usr/bin/env python3", compressed=True)
+def contents() -> dict[str, str]:
+    """The files of the packed one, by their names in it. Raises OSError."""
+    top = os.path.dirname(HERE)
+    sources = {f"gateway/{name}": os.path.join(HERE, name) for name in os.listdir(HERE)
+               if name.endswith(".py") and name not in ("__main__.py", "pack.py")}
+    sources |= {f"sothvelm/{name}": os.path.join(top, "tools", "sothvelm", name) for name in TOOLS}
+    sources["sothvelm/commands.txt"] = os.path.join(top, "examples", "commands.txt")
+    found = {"__main__.py": MAIN, "sothvelm/__init__.py": '"""What the gateway uses of tools/sothvelm."""\n'}
+    for name, path in sources.items():
+        with open(path, encoding="utf-8") as file:
+            found[name] = file.read()
+    return found
+
+
+def pack(target: str, python: str = "/usr/bin/env python3") -> None:
+    """Writes the file, the same for the same sources. Raises OSError."""
+    files = contents()
+    with open(target, "wb") as file:
+        file.write(f"#!{python}\n".encode())
+        with zipfile.ZipFile(file, "w", zipfile.ZIP_DEFLATED) as archive:
+            for name in sorted(files):
+                archive.writestr(zipfile.ZipInfo(name), files[name], zipfile.ZIP_DEFLATED)
     os.chmod(target, 0o755)
 
 
