@@ -70,7 +70,7 @@ class Lines(unittest.TestCase):
 
     def test_refusals_in_words(self) -> None:
         self.assertEqual(session("GC 001 Z %01")[:3], (
-            1, "", "sothvelm console: GC was refused with 13: no known error code\n"))
+            1, "", "sothvelm console: GC was refused with 13: " + prompt.table.load().meaning("13") + "\n"))
         self.assertEqual(session("C generate.000")[2][:51], "sothvelm console: C was refused with 15: a field ha")
 
     def test_no_console(self) -> None:
