@@ -89,16 +89,22 @@ class Desk:
 
 # What the page asks
 
+def open_fields(row: table.Command) -> list[table.Field]:
+    """The fields of the form. The LMK set of the console's last field is asked for beside them."""
+    return [each for each in row.fields if each.plain != "[%nn]"]
+
+
 def request_in(asked: dict[str, Any], desk: Desk) -> Request[Any]:
     """The request that the page's form says. Raises FieldFault."""
     rows = table.load()
     command, texts = asked.get("command"), asked.get("texts")
     row = rows.hosts.get(str(command)) or rows.console.get(str(command))
-    if row is None or not isinstance(texts, list) or len(texts) != len(row.fields) or not all(
+    if row is None or not isinstance(texts, list) or len(texts) != len(open_fields(row)) or not all(
             isinstance(each, str) for each in texts):
         raise FieldFault("the page asks for no command of the table")
+    texts = texts + [""] * (len(row.fields) - len(texts))
     if row.code == "A" and desk.words and not any(texts[2:]):
-        texts = [*texts[:2], *desk.words]  # the officers of the page's own module
+        texts[2:4] = desk.words  # the officers of the page's own module
     number, trailer = str(asked.get("set") or ""), str(asked.get("trailer") or "")
     if number and number not in [str(each) for each in range(SETS)]:
         raise FieldFault(f"an LMK set is 0 to {SETS - 1}, or nothing")
@@ -202,7 +208,7 @@ def page_of(token: str, nonce: str, where: str) -> str:
         {"code": row.code, "title": row.title, "console": row.is_console, "set": row.code in ("GC", "FK"),
          "example": ["" if each.is_secret else text for each, text in zip(row.fields, row.example)]
          if row.code == "A" else row.example,
-         "fields": [field_data(row, place) for place in range(len(row.fields)) if row.fields[place].plain != "[%nn]"]}
+         "fields": [field_data(row, place) for place in range(len(open_fields(row)))]}
         for row in (*rows.hosts.values(), *rows.console.values())]}
     text = (HERE / "page.html").read_text("utf-8")
     written = json.dumps(data).replace("<", "\\u003c")

@@ -160,7 +160,7 @@ class Page(unittest.TestCase):
             names = self.browser.run("[...document.querySelectorAll('#fields input, #fields select')].map((each) => "
                                      "[each.labels.length, at(each.id + 'help').textContent.length > 0])")
             row = table.load().hosts.get(code) or table.load().console[code]
-            self.assertEqual(names, len(row.fields) * [[1, True]], code)
+            self.assertEqual(names, len(page.open_fields(row)) * [[1, True]], code)
 
     def test_a_refusal_is_marked(self) -> None:
         """By the module, and before it is sent: the field is marked, has the words beside it, and the focus."""
