@@ -81,6 +81,20 @@ class Served(unittest.TestCase):
                 console.perform(request)
             self.assertEqual(caught.exception.code, code)
 
+    def test_an_lmk_set(self) -> None:
+        """Set 00 is the one without a name, and one that is not loaded is told, of a program that reads sets."""
+        with self.module.client() as host:
+            plain = host.check_of_lmks()
+            try:
+                named = host.check_of_lmks(lmk_set=0, trailer=b"t")
+            except Refused as refused:
+                self.assertEqual((refused.code, refused.check), ("15", "set"))
+                self.skipTest("this program reads no LMK set")
+            self.assertEqual((named.check_of_lmks, named.trailer), (plain.check_of_lmks, b"t"))
+            with self.assertRaises(Refused) as caught:
+                host.draw_pin(account_field=ACCOUNT, length=4, lmk_set=3)
+            self.assertEqual((caught.exception.code, caught.exception.check), ("13", "set"))
+
     def test_a_pipeline(self) -> None:
         with self.module.client() as host:
             with host.pipeline() as several:
