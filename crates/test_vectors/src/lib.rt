@@ -14,6 +14,8 @@ mod frames;
 #[cfg(test)]
 mod macs;
 #[cfg(test)]
+mod modes;
+#[cfg(test)]
 mod pins;
 #[cfg(test)]
 mod seals;
