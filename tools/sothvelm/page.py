@@ -327,8 +327,8 @@ def run(options: argparse.Namespace) -> int:
         except OSError as fault:
             raise Told(f"port {options.port}: {fault.strerror}", 3) from None
         with server:
-            print(f"http://{ADDRESS}:{server.server_port}/", flush=True)
             with contextlib.suppress(KeyboardInterrupt):
+                print(f"http://{ADDRESS}:{server.server_port}/", flush=True)
                 server.serve_forever()
             print("sothvelm page: ended", file=sys.stderr)
     return 0
